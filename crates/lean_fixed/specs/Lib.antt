@@ -1,0 +1,5 @@
+pub mod Digits
+pub mod Fields
+pub mod Symbol
+pub mod Calendar
+pub mod Printed

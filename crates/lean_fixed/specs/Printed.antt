@@ -1,0 +1,31 @@
+-- The texts that reports are made of.
+use Rattle.std.specs.Prelude.{ℕ, suc, ◌+◌, ◌*◌, ◌/◌, ◌%◌, ℤ, pos, negsuc, List, [], ◌∷◌, ◌++◌, decimal}
+use Rattle.lean_fixed.specs.Calendar.{Civil, civil_of}
+
+-- the last two and the last four decimal digits of a number, with their leading zeros
+abbrev pub two_digits : ℕ → List ℕ
+two_digits n = (48 + n / 10 % 10) ∷ (48 + n % 10) ∷ []
+
+abbrev pub four_digits : ℕ → List ℕ
+four_digits n = two_digits (n / 100) ++ two_digits n
+
+-- a number of 1/10000 dollar: the whole dollars, a point and four digits
+abbrev pub units_text : ℕ → List ℕ
+units_text n = decimal (n / 10000) ++ 46 ∷ four_digits n
+
+-- the same of a signed number, with '-' where it is negative: a price or money
+abbrev pub money_text : ℤ → List ℕ
+money_text (pos n) = units_text n
+money_text (negsuc n) = 45 ∷ units_text (suc n)
+
+-- yyyyMMdd
+abbrev pub date_text : Civil → List ℕ
+date_text date = four_digits date.year ++ two_digits date.month ++ two_digits date.day
+
+abbrev pub day_text : ℕ → List ℕ
+day_text day = date_text (civil_of day)
+
+-- the day of a moment, a space, and HH:mm
+abbrev pub moment_text : ℕ → List ℕ
+moment_text minute =
+    day_text (minute / 1440) ++ 32 ∷ two_digits (minute % 1440 / 60) ++ 58 ∷ two_digits (minute % 60)
