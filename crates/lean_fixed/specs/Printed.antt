@@ -1,5 +1,7 @@
 -- The texts that reports are made of.
-use Rattle.std.specs.Prelude.{ℕ, suc, ◌+◌, ◌*◌, ◌/◌, ◌%◌, ℤ, pos, negsuc, List, [], ◌∷◌, ◌++◌, decimal}
+use Rattle.std.specs.Prelude.{ℕ, ◌+◌, ◌/◌, ◌%◌, ℤ, unsigned_abs, List, [], ◌∷◌, ◌++◌, decimal}
+use Rattle.std.specs.Fmt.{sign_text}
+use Rattle.std.specs.Int.{is_negative}
 use Rattle.lean_fixed.specs.Calendar.{Civil, civil_of}
 
 -- the last two and the last four decimal digits of a number, with their leading zeros
@@ -10,22 +12,22 @@ abbrev pub four_digits : ℕ → List ℕ
 four_digits n = two_digits (n / 100) ++ two_digits n
 
 -- a number of 1/10000 dollar: the whole dollars, a point and four digits
-abbrev pub units_text : ℕ → List ℕ
+unfoldable pub units_text : ℕ → List ℕ
 units_text n = decimal (n / 10000) ++ 46 ∷ four_digits n
 
--- the same of a signed number, with '-' where it is negative: a price or money
-abbrev pub money_text : ℤ → List ℕ
-money_text (pos n) = units_text n
-money_text (negsuc n) = 45 ∷ units_text (suc n)
+-- the same with '-' before it where it is negative: a price or money
+unfoldable pub money_text : ℤ → List ℕ
+money_text units = sign_text (is_negative units) ++ units_text (unsigned_abs units)
 
 -- yyyyMMdd
 abbrev pub date_text : Civil → List ℕ
 date_text date = four_digits date.year ++ two_digits date.month ++ two_digits date.day
 
-abbrev pub day_text : ℕ → List ℕ
+-- the date of a day
+unfoldable pub day_text : ℕ → List ℕ
 day_text day = date_text (civil_of day)
 
 -- the day of a moment, a space, and HH:mm
-abbrev pub moment_text : ℕ → List ℕ
+unfoldable pub moment_text : ℕ → List ℕ
 moment_text minute =
     day_text (minute / 1440) ++ 32 ∷ two_digits (minute % 1440 / 60) ++ 58 ∷ two_digits (minute % 60)

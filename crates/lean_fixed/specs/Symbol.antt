@@ -1,5 +1,5 @@
 -- The names of securities.
-use Rattle.std.specs.Prelude.{ℕ, Bool, false, not, ◌&&◌, ◌||◌, ◌==◌, nat_le, List, [], ◌∷◌, length}
+use Rattle.std.specs.Prelude.{ℕ, Bool, not, ◌&&◌, ◌||◌, ◌==◌, nat_le, List, length, slice_index}
 use Rattle.std.specs.List.{list_all}
 use Rattle.lean_fixed.specs.Digits.{is_digit}
 
@@ -7,12 +7,8 @@ use Rattle.lean_fixed.specs.Digits.{is_digit}
 abbrev pub is_symbol_byte : ℕ → Bool
 is_symbol_byte b = (nat_le 65 b && nat_le b 90) || is_digit b || (b == 46)
 
-abbrev pub begins_with_point : List ℕ → Bool
-begins_with_point [] = false
-begins_with_point (b ∷ _) = b == 46
-
 -- one to twelve such bytes, of which the first is no point
 abbrev pub is_symbol : List ℕ → Bool
 is_symbol text =
-    nat_le 1 (length text) && nat_le (length text) 12 && list_all is_symbol_byte text
-    && not (begins_with_point text)
+    nat_le 1 (length text) && nat_le (length text) 12 && not (slice_index text 0 == 46)
+    && list_all is_symbol_byte text

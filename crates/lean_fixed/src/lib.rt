@@ -1,14 +1,26 @@
 //! Exact numbers of a backtest: prices and money in 1/10000 dollar, days and moments of the exchange's clock, symbols,
-//! and the texts in which they are read and printed. A reading answers `None` exactly where the text has another form,
-//! and what is appended is the text of the definition, byte for byte.
+//! and the texts in which they are read and printed. A reading answers `None` exactly where the text has another form or
+//! its value is out of range, what is appended is the text of the definition, byte for byte, and what is printed is read
+//! back as the same value.
 #![tactic(auto)]
 
+mod amount;
+mod digits;
+pub mod laws;
 mod memory;
 mod money;
 mod resolution;
+mod symbol;
+#[cfg(test)]
+mod tests;
+mod texts;
 mod time;
 
+pub use amount::read_amount;
+pub use digits::read_digits;
 pub use memory::NoMemory;
 pub use money::{Money, Price, Shares, Side};
 pub use resolution::Resolution;
+pub use symbol::Symbol;
+pub use texts::{day_text, moment_text, money_text, price_text};
 pub use time::{Day, Moment, Window};

@@ -1,3 +1,11 @@
+ghost use Rattle.std.specs.Prelude.{◌≡◌, ◌<◌, ◌≤◌, ◌↔◌, ◌+ℤ◌, ◌≤ℤ◌, pos, unsigned_abs, IsNone, if◌then◌else◌, is_some, IfSome, option_map};
+ghost use Rattle.jiff_core.specs.Calendar.{IsBetween};
+ghost use Rattle.jiff_core.specs.Date.{epoch_day, IsYmd};
+ghost use Rattle.lean_fixed.specs.Calendar.{Civil, is_civil, day_number, day_of_digits, civil_of, weekday};
+
+use crate::digits::read_digits;
+use jiff_core::civil::Date;
+
 /// A day as the number of days since 1970-01-01, from 0 to 84,005, which is 2199-12-31.
 #[derive(Clone, Copy, Debug, PartialEq, Eq, PartialOrd, Ord, Hash)]
 pub struct Day(pub i32);
@@ -11,4 +19,91 @@ pub struct Moment(pub i64);
 pub struct Window {
     pub first: Day,
     pub last: Day,
+}
+
+/// The year of the first day.
+const FIRST_YEAR: u64 = 1970;
+
+/// The year of the last day.
+const LAST_YEAR: u64 = 2199;
+
+/// The last day, 2199-12-31.
+const LAST_DAY: i32 = 84_005;
+
+impl Day {
+    /// The day that `yyyyMMdd` spells. `None` exactly where the bytes are not eight digits that are a date of the civil
+    /// calendar from 19700101 to 21991231.
+    pub fn read(bytes: &[u8]) -> Option<Day>
+        ensures value { result ≡ option_map (λ n. record { 0 = pos n }) (day_of_digits bytes.now) }
+        ensures range { IfSome result (λ d. (pos 0 ≤ℤ d.0) × (d.0 ≤ℤ pos 84005)) }
+    {
+        if bytes.len() != 8 {
+            return None;
+        }
+        let year = read_digits(&bytes[..4])?;
+        let month = read_digits(&bytes[4..6])?;
+        let day = read_digits(&bytes[6..8])?;
+        Some(day_of(date_of(year, month, day)?))
+    }
+
+    /// The day of the week: 0 for Sunday to 6 for Saturday.
+    pub fn weekday(self) -> u8
+        requires low { pos 0 ≤ℤ self.0 }
+        requires high { self.0 ≤ℤ pos 84005 }
+        ensures value { result ≡ weekday (unsigned_abs self.0) }
+        ensures bound { result < 7 }
+    {
+        date_at(self.0.unsigned_abs())
+            .weekday()
+            .to_sunday_zero_offset()
+            .unsigned_abs()
+    }
+
+    /// The day after this one. `None` exactly at the last day, 84,005.
+    pub fn next(self) -> Option<Day>
+        requires { self.0 ≤ℤ pos 84005 }
+        ensures none { IsNone result ↔ (self.0 ≡ pos 84005) }
+        ensures value { IfSome result (λ day. day.0 ≡ self.0 +ℤ pos 1) }
+    {
+        if self.0 < LAST_DAY {
+            Some(Day(self.0 + 1))
+        } else {
+            None
+        }
+    }
+}
+
+fn date_of(year: u64, month: u64, day: u64) -> Option<Date>
+    ensures civil { is_some result ≡ is_civil (record { year = year; month = month; day = day }) }
+    ensures parts { IfSome result (IsYmd (pos year) (pos month) (pos day)) }
+    ensures years { IfSome result (λ date. IsBetween (pos 1970) (pos 2199) date.year) }
+{
+    if year < FIRST_YEAR || year > LAST_YEAR || month > 12 || day > 31 {
+        return None;
+    }
+    Date::new(year as i16, month as i8, day as i8).ok()
+}
+
+#[tactic(auto, using(crate::proofs::CalendarWalk::not_before, crate::proofs::CalendarWalk::not_after))]
+fn day_of(date: Date) -> Day
+    requires { IsBetween (pos 1970) (pos 2199) date.year }
+    ensures value { result.0 ≡ epoch_day date }
+    ensures low { pos 0 ≤ℤ result.0 }
+    ensures high { result.0 ≤ℤ pos 84005 }
+{
+    Day(date.to_unix_epoch_day())
+}
+
+// The date of a day, which may also be one of the two after the last.
+pub(crate) fn date_at(day: u32) -> Date
+    requires { day ≤ 84007 }
+    ensures year { result.year ≡ pos (civil_of day).year }
+    ensures month { result.month ≡ (civil_of day).month }
+    ensures day { result.day ≡ (civil_of day).day }
+    ensures number { epoch_day result ≡ pos day }
+{
+    match Date::from_unix_epoch_day(day as i64) {
+        Ok(date) => date,
+        Err(_) => unreachable!(),
+    }
 }

@@ -1,0 +1,9 @@
+pub mod FieldLemmas
+pub mod NumberLemmas
+pub mod CommaLemmas
+pub mod ValueLemmas
+pub mod JoinLemmas
+pub mod DatedLemmas
+pub mod TimeLemmas
+pub mod AppendLemmas
+pub mod ReadBackLemmas

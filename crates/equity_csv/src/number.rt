@@ -1,0 +1,100 @@
+//! The plain numbers of a line, read byte by byte with no list of fields.
+
+ghost use Rattle.std.specs.Prelude.{◌≡◌, ◌<◌, ◌≤◌, ◌^◌, length, option_map, IfSome};
+ghost use Rattle.lean_fixed.specs.Digits.{is_digit};
+ghost use Rattle.lean_fixed.specs.Fields.{fields};
+ghost use Rattle.equity_csv.specs.Reading.{number_up_to, leading, first_of, number_and_rest, number_and_behind, fields_after, after_end, after_zeros};
+
+/// A number that a text begins with, and what stands behind its field: nothing, or a comma and the further fields.
+#[derive(Clone, Copy)]
+pub struct Leading<'t> {
+    pub number: u64,
+    pub behind: &'t [u8],
+}
+
+/// A number that a text begins with, and the text of the fields after it.
+#[derive(Clone, Copy)]
+pub struct Taken<'t> {
+    pub number: u64,
+    pub rest: &'t [u8],
+}
+
+/// The plain number that the text's first field is, and the fields after it. `None` where there is no further field, or the
+/// field is no plain number of at most `most`.
+pub fn take_number(text: &[u8], most: u64) -> Option<Taken<'_>>
+    requires { most ≤ 10 ^ 18 }
+    ensures read { number_and_rest result ≡ first_of (number_up_to most) (fields text.now) }
+    ensures most { IfSome result (λ t. t.number ≤ most) }
+{
+    let leading = leading_number(text, most)?;
+    if leading.behind.is_empty() {
+        return None;
+    }
+    Some(Taken {
+        number: leading.number,
+        rest: &leading.behind[1..],
+    })
+}
+
+/// The plain number that the text's first field is. `None` where the field is no plain number of at most `most`.
+pub fn leading_number(text: &[u8], most: u64) -> Option<Leading<'_>>
+    requires { most ≤ 10 ^ 18 }
+    ensures read { number_and_behind result ≡ leading (number_up_to most) (fields text.now) }
+    ensures most { IfSome result (λ n. n.number ≤ most) }
+{
+    let [first, ..] = text else {
+        return None;
+    };
+    if !is_decimal(*first) {
+        return None;
+    }
+    let mut number: u64 = 0;
+    for (i, byte) in text.iter().enumerate() {
+        if !is_decimal(*byte) {
+            let behind = after_number(&text[i..])?;
+            return Some(Leading { number, behind });
+        }
+        number = number * 10 + (*byte - b'0') as u64;
+        // A further digit makes the number no less, and so no number grows past 10^19.
+        if number > most {
+            return None;
+        }
+    }
+    Some(Leading {
+        number,
+        behind: &text[text.len()..],
+    })
+}
+
+fn is_decimal(byte: u8) -> bool
+    ensures { result ≡ is_digit byte }
+{
+    byte.is_ascii_digit()
+}
+
+// What follows the field of a number whose digits end where this text begins.
+fn after_number(tail: &[u8]) -> Option<&[u8]>
+    requires { 0 < length tail.now }
+    ensures { option_map (λ behind. fields_after behind.now) result ≡ after_end (fields tail.now) }
+{
+    match tail[0] {
+        b',' => Some(tail),
+        b'.' => after_fraction(&tail[1..]),
+        _ => None,
+    }
+}
+
+// What follows the field of a number behind whose point this text begins.
+fn after_fraction(fraction: &[u8]) -> Option<&[u8]>
+    ensures { option_map (λ behind. fields_after behind.now) result
+        ≡ after_zeros (fields fraction.now) }
+{
+    for (i, byte) in fraction.iter().enumerate() {
+        match *byte {
+            b'0' => {}
+            b',' => return Some(&fraction[i..]),
+            _ => return None,
+        }
+    }
+    Some(&fraction[fraction.len()..])
+}

@@ -1,0 +1,4 @@
+mod Pieces
+mod Entries
+mod Adapters
+mod Buffer

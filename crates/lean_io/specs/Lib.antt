@@ -1,0 +1,7 @@
+pub mod Told
+pub mod Whole
+pub mod Lines
+pub mod Counts
+pub mod MemSink
+pub mod MemFolder
+pub mod DirHand

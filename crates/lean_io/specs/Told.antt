@@ -1,0 +1,19 @@
+use Rattle.std.specs.Prelude.{◌≡◌, ℕ, ◌+◌, ◌-◌, ◌^◌, ◌≤◌, ◌↔◌, ◌⊎◌, Bool, List, [], ◌++◌, take, min, Option, Some, None, if◌then◌else◌}
+
+-- the files that a folder or a hand tells: at each path the bytes of its file, or nothing
+abbrev pub Files : Type 0
+Files = List ℕ → Option (List ℕ)
+
+-- a count of faults rose in a call, or stands at its last value
+abbrev pub Rose : ℕ → ℕ → Type 0
+Rose before now = min (before + 1) (2 ^ 64 - 1) ≤ now
+
+-- an opening found a file exactly where the path has one, and then its bytes are still to be read
+abbrev pub Opened : Files → List ℕ → Bool → List ℕ → Type 0
+Opened files path found rest = files path ≡ (if found then Some rest else None)
+
+-- a read moved the first n bytes of the rest to the front of `into`
+-- it moved none exactly where nothing is left, or `into` has no room
+pub record Reads (n : ℕ) (old new into : List ℕ) : Type 0 where
+  pub moved : old ≡ take n into ++ new
+  pub ends : (n ≡ 0) ↔ ((old ≡ []) ⊎ (into ≡ []))

@@ -1,0 +1,14 @@
+pub mod Merge
+pub mod Tally
+pub mod HeadLemmas
+pub mod Next
+pub mod PrintedLemmas
+pub mod LineLemmas
+pub mod HeapLemmas
+pub mod WordLemmas
+pub mod LineTexts
+pub mod FileLemmas
+pub mod Gathering
+pub mod DayStarts
+pub mod Endings
+pub mod Counting

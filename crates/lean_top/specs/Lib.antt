@@ -1,0 +1,17 @@
+pub mod ByDay
+pub mod Heads
+pub mod HeapOf
+pub mod Entry
+pub mod Source
+pub mod Tape
+pub mod Printed
+pub mod Status
+pub mod Command
+pub mod DailyFile
+pub mod DailyTape
+pub mod Report
+pub mod FileRows
+pub mod ReadStop
+pub mod Gathered
+pub mod Ending
+pub mod Causes

@@ -1,0 +1,24 @@
+//! The top calls: a command line over a folder of market files, printed into a sink. What is printed, and the status, are
+//! those of the report, a plain definition over the words and the folder's files; or a front of it was printed, and the
+//! status names the cause.
+#![tactic(auto)]
+
+mod daily_file;
+mod daily_tape;
+mod heads;
+mod line;
+mod lines;
+mod path;
+mod print;
+mod report;
+mod source;
+mod sources;
+mod status;
+mod tape;
+#[cfg(test)]
+mod tests;
+mod top;
+mod words;
+
+pub use status::Status;
+pub use top::{lean_main, lean_offline};

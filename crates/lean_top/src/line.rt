@@ -1,0 +1,70 @@
+//! The lines of the daily tape.
+ghost use Rattle.std.specs.Prelude.{◌≡◌, ◌++◌, ◌≤ℤ◌, pos, unsigned_abs, OnOk};
+ghost use Rattle.lean_fixed.specs.Printed.{money_text};
+ghost use Rattle.lean_top.specs.Entry.{row_day, IsDaily};
+ghost use Rattle.lean_top.specs.DailyTape.{part, tape_line, end_line};
+
+use equity_csv::Row;
+use itoa::Buffer;
+use lean_fixed::{Day, NoMemory, Price, Symbol, day_text, price_text};
+
+/// The minutes of a day.
+const DAY: i64 = 1440;
+
+/// Appends the line of a row.
+pub fn append_line(symbol: &Symbol, row: &Row, page: &mut Vec<u8>) -> Result<(), NoMemory>
+    requires { IsDaily row.now }
+    ensures { OnOk result (page.new.items ≡ page.old.items ++ tape_line (symbol.now, row.now)) }
+{
+    day_text(day_of(row), page)?;
+    append_part(symbol.bytes(), page)?;
+    append_price(row.opening, page)?;
+    append_price(row.high, page)?;
+    append_price(row.low, page)?;
+    append_price(row.closing, page)?;
+    append_part(Buffer::new().format(volume_of(row)).as_bytes(), page)?;
+    page.push(b'\n')?;
+    Ok(())
+}
+
+/// Appends the line that counts the rows.
+pub fn append_end(rows: u64, page: &mut Vec<u8>) -> Result<(), NoMemory>
+    ensures { OnOk result (page.new.items ≡ page.old.items ++ end_line rows) }
+{
+    page.extend_from_slice(b"end ")?;
+    page.extend_from_slice(Buffer::new().format(rows).as_bytes())?;
+    page.extend_from_slice(b" rows\n")?;
+    Ok(())
+}
+
+fn append_part(text: &[u8], page: &mut Vec<u8>) -> Result<(), NoMemory>
+    ensures { OnOk result (page.new.items ≡ page.old.items ++ part text.now) }
+{
+    page.push(b' ')?;
+    page.extend_from_slice(text)?;
+    Ok(())
+}
+
+fn append_price(price: Price, page: &mut Vec<u8>) -> Result<(), NoMemory>
+    ensures { OnOk result (page.new.items ≡ page.old.items ++ part (money_text price.0)) }
+{
+    page.push(b' ')?;
+    price_text(price, page)
+}
+
+/// The day on which a row starts.
+fn day_of(row: &Row) -> Day
+    requires { IsDaily row.now }
+    ensures value { unsigned_abs result.0 ≡ row_day row.now }
+    ensures low { pos 0 ≤ℤ result.0 }
+    ensures high { result.0 ≤ℤ pos 84005 }
+{
+    Day((row.start.0 / DAY) as i32)
+}
+
+fn volume_of(row: &Row) -> u64
+    requires { IsDaily row.now }
+    ensures { result ≡ unsigned_abs row.now.volume.0 }
+{
+    row.volume.0 as u64
+}
