@@ -1,0 +1,212 @@
+-- Bars of the grid against the hours of the day in which they start.
+use Rattle.std.proofs.Common.{ℕ, ◌+◌, ◌-◌, ◌*◌, ◌/◌, ◌%◌, ◌==◌, ◌<◌, ◌≤◌, ◌≡◌, true, false, nat_lt, true≢false, Option, Some, None, option_map, max, IfSome, inl, inr, refl, sym, subst, ◌∙◌, ap, arith}
+use Rattle.std.specs.Option.{option_map_or}
+use Rattle.std.proofs.lemmas.Bool.{cases_lt, and_parts, and_from}
+use Rattle.std.proofs.lemmas.Bool.Decides.{nat_tests}
+use Rattle.lean_fixed.specs.declared.resolution.Resolution.{Resolution}
+use Rattle.lean_fixed.specs.declared.resolution.Resolution.TheVariants.{Minute, Hour, Daily}
+use Rattle.exchange_hours.specs.declared.spans.Span.{Span}
+use Rattle.exchange_hours.specs.Entries.{Entries}
+use Rattle.exchange_hours.specs.Sessions.{span_on, interval_from, LiesInDay, LieInDays}
+use Rattle.exchange_hours.specs.Grid.{closing, close_of, IsClose, is_bar, meets, in_session, IsGridEnd, bar_start, HasOneBarAtEnd}
+use Rattle.exchange_hours.specs.Spans.{IsSpan, IsEnd, IsNextEnd}
+use Rattle.exchange_hours.specs.Next.{IsNextFrom}
+
+-- the day of a minute of a day
+pub day_of : (day minute : ℕ) → minute < 1440 → (1440 * day + minute) / 1440 ≡ day
+day_of day minute h = omega arith
+
+-- a bar as facts
+abbrev IsBar : Entries → Resolution → ℕ → ℕ → Type 0
+IsBar hours Minute start end = end ≡ start + 1
+IsBar hours Hour start end = (start % 60 ≡ 0) × (end ≡ start + 60)
+IsBar hours Daily start end = (start % 1440 ≡ 0) × (close_of hours (start / 1440) ≡ Some end)
+
+close_told : (found : Option ℕ) (t : ℕ) → option_map_or (λ closes. closes == t) found false ≡ true → found ≡ Some t
+close_told None t h = absurd (true≢false (sym h))
+close_told (Some closes) t h = ap Some (grind (arith, nat_tests))
+
+close_tested : (found : Option ℕ) (t : ℕ) → found ≡ Some t → option_map_or (λ closes. closes == t) found false ≡ true
+close_tested found t is = rw is (grind (arith, nat_tests))
+
+bar_told : (hours : Entries) (resolution : Resolution) (start end : ℕ) → is_bar hours resolution start end ≡ true → IsBar hours resolution start end
+bar_told hours Minute start end h = grind (arith, nat_tests)
+bar_told hours Hour start end h =
+    let parts = and_parts (start % 60 == 0) (end == start + 60) h in (grind (arith, nat_tests), grind (arith, nat_tests))
+bar_told hours Daily start end h =
+    let parts = and_parts (start % 1440 == 0) _ h in (grind (arith, nat_tests), close_told (close_of hours (start / 1440)) end parts.1)
+
+bar_tested : (hours : Entries) (resolution : Resolution) (start end : ℕ) → IsBar hours resolution start end → is_bar hours resolution start end ≡ true
+bar_tested hours Minute start end h = grind (arith, nat_tests)
+bar_tested hours Hour start end h =
+    and_from (start % 60 == 0) (end == start + 60) (grind (arith, nat_tests)) (grind (arith, nat_tests))
+bar_tested hours Daily start end h =
+    and_from (start % 1440 == 0) _ (grind (arith, nat_tests)) (close_tested (close_of hours (start / 1440)) end h.1)
+
+-- a bar of the grid that ends here, as facts
+abbrev EndsBar : Entries → Resolution → ℕ → Type 0
+EndsBar hours resolution end =
+    (start : ℕ) × IsBar hours resolution start end × (in_session hours start end ≡ true)
+
+bar_at_end : (hours : Entries) (resolution : Resolution) (end : ℕ) → IsGridEnd hours resolution end → EndsBar hours resolution end
+bar_at_end hours resolution end g =
+    let parts = and_parts (is_bar hours resolution g.0 end) (in_session hours g.0 end) g.1 in
+    (g.0, bar_told hours resolution g.0 end parts.0, parts.1)
+
+end_of_bar : (hours : Entries) (resolution : Resolution) (end : ℕ) → EndsBar hours resolution end → IsGridEnd hours resolution end
+end_of_bar hours resolution end b =
+    (b.0, and_from (is_bar hours resolution b.0 end) (in_session hours b.0 end) (bar_tested hours resolution b.0 end b.1) b.2)
+
+in_session-at : (hours : Entries) (day : ℕ) (span : Span) (start end : ℕ) → start / 1440 ≡ day → span_on hours day ≡ Some span
+    → 1440 * day + span.opens < end → start < 1440 * day + span.closes → in_session hours start end ≡ true
+in_session-at hours day span start end is_day is_span after before = rw (is_day, is_span) (grind (arith, nat_tests))
+
+end_is_bar : (hours : Entries) (resolution : Resolution) (day : ℕ) (span : Span) (end : ℕ) → span_on hours day ≡ Some span → IsSpan span → IsEnd span resolution end
+    → EndsBar hours resolution (1440 * day + end)
+end_is_bar hours Minute day span end is_span ok is_end =
+    (1440 * day + (end - 1), omega arith, in_session-at hours day span _ _ (omega arith) is_span (omega arith) (omega arith))
+end_is_bar hours Hour day span end is_span ok is_end =
+    (1440 * day + (end - 60), (omega arith, omega arith), in_session-at hours day span _ _ (omega arith) is_span (omega arith) (omega arith))
+end_is_bar hours Daily day span end is_span ok is_end =
+    let is_day : 1440 * day / 1440 ≡ day = omega arith in
+    (1440 * day, (omega arith, rw (is_day, is_span) (ap (λ e. Some (1440 * day + e)) (sym is_end))), in_session-at hours day span _ _ is_day is_span (omega arith) (omega arith))
+
+-- the end of a bar that is in session on a day is a grid end
+end_is_grid : (hours : Entries) (resolution : Resolution) (day : ℕ) (span : Span) (end : ℕ) → span_on hours day ≡ Some span → IsSpan span → IsEnd span resolution end
+    → IsGridEnd hours resolution (1440 * day + end)
+end_is_grid hours resolution day span end is_span ok is_end =
+    end_of_bar hours resolution _ (end_is_bar hours resolution day span end is_span ok is_end)
+
+span_met : (found : Option Span) (midnight start end : ℕ) → option_map_or (meets start end) (option_map (interval_from midnight) found) false ≡ true
+    → (span : Span) × (found ≡ Some span) × (midnight + span.opens < end) × (start < midnight + span.closes)
+span_met None midnight start end h = absurd (true≢false (sym h))
+span_met (Some span) midnight start end h = (span, refl, grind (arith, nat_tests), grind (arith, nat_tests))
+
+span_closing : (found : Option Span) (midnight end : ℕ) → option_map closing (option_map (interval_from midnight) found) ≡ Some end
+    → (span : Span) × (found ≡ Some span) × (midnight + span.closes ≡ end)
+span_closing None midnight end h = cc
+span_closing (Some span) midnight end h = (span, refl, cc)
+
+spans_at : (hours : Entries) (day : ℕ) (span : Span) → LieInDays hours → span_on hours day ≡ Some span → IsSpan span
+spans_at hours day span every is =
+    let Q : Option Span → Type 0 = λ o. IfSome (option_map (interval_from (1440 * day)) o) (LiesInDay day) in
+    let lies : LiesInDay day (interval_from (1440 * day) span) = subst Q is (every day) in
+    (omega arith, omega arith)
+
+on_day : (hours : Entries) (start day : ℕ) (span : Span) → start ≡ day → span_on hours start ≡ Some span → span_on hours day ≡ Some span
+on_day hours start day span is h = let P : ℕ → Type 0 = λ d. span_on hours d ≡ Some span in subst P is h
+
+bar_is_end : (hours : Entries) (resolution : Resolution) (day end : ℕ) → LieInDays hours → EndsBar hours resolution end → 1440 * day < end → end ≤ 1440 * day + 1440
+    → (span : Span) × (span_on hours day ≡ Some span) × IsEnd span resolution (end - 1440 * day)
+bar_is_end hours Minute day end every g after until =
+    let is_day : g.0 / 1440 ≡ day = omega arith in
+    let met = span_met (span_on hours (g.0 / 1440)) (1440 * (g.0 / 1440)) g.0 end g.2 in
+    (met.0, on_day hours _ day met.0 is_day met.1, (omega arith, omega arith))
+bar_is_end hours Hour day end every g after until =
+    let is_day : g.0 / 1440 ≡ day = omega arith in
+    let met = span_met (span_on hours (g.0 / 1440)) (1440 * (g.0 / 1440)) g.0 end g.2 in
+    (met.0, on_day hours _ day met.0 is_day met.1, (omega arith, omega arith, omega arith))
+bar_is_end hours Daily day end every g after until =
+    let closes = span_closing (span_on hours (g.0 / 1440)) (1440 * (g.0 / 1440)) end g.1.1 in
+    let lies = spans_at hours (g.0 / 1440) closes.0 every closes.1 in
+    let is_day : g.0 / 1440 ≡ day = omega arith in
+    (closes.0, on_day hours _ day closes.0 is_day closes.1, omega arith)
+
+-- a grid end past 00:00 of a day and up to its 24:00 is the end of a bar of that day
+grid_is_end : (hours : Entries) (resolution : Resolution) (day end : ℕ) → LieInDays hours → IsGridEnd hours resolution end → 1440 * day < end → end ≤ 1440 * day + 1440
+    → (span : Span) × (span_on hours day ≡ Some span) × IsEnd span resolution (end - 1440 * day)
+grid_is_end hours resolution day end every g after until =
+    bar_is_end hours resolution day end every (bar_at_end hours resolution end g) after until
+
+-- no end of the day's bars is left: no grid end lies in the day past `after`
+pub next_on-none : (hours : Entries) (resolution : Resolution) (day after from : ℕ) (span : Span) → from ≡ after - 1440 * day → LieInDays hours → span_on hours day ≡ Some span → IsNextEnd span resolution from None
+    → IsNextFrom (IsGridEnd hours resolution) (max after (1440 * day)) (1440 * day + 1440) None
+next_on-none hours resolution day after from span begins every is none end g past within =
+    let e = grid_is_end hours resolution day end every g (omega arith) within in
+    let same : e.0 ≡ span = cc in
+    omega (arith, none (end - 1440 * day) (let P : Span → Type 0 = λ s. IsEnd s resolution (end - 1440 * day) in subst P same e.2))
+
+pub next_on-no_span : (hours : Entries) (resolution : Resolution) (day after : ℕ) → LieInDays hours → span_on hours day ≡ None
+    → IsNextFrom (IsGridEnd hours resolution) (max after (1440 * day)) (1440 * day + 1440) None
+next_on-no_span hours resolution day after every is end g past within =
+    let e = grid_is_end hours resolution day end every g (omega arith) within in cc
+
+end_lies : (resolution : Resolution) (span : Span) (end : ℕ) → IsSpan span → IsEnd span resolution end → (0 < end) × (end ≤ 1440)
+end_lies Minute span end ok e = (omega arith, omega arith)
+end_lies Hour span end ok e = (omega arith, omega arith)
+end_lies Daily span end ok e = (omega arith, omega arith)
+
+within_day : (hours : Entries) (resolution : Resolution) (day after from : ℕ) (span : Span) (minute end : ℕ) → from ≡ after - 1440 * day → LieInDays hours → span_on hours day ≡ Some span → IsNextEnd span resolution from (Some minute)
+    → IsGridEnd hours resolution end → after < end → 1440 * day < end → end ≤ 1440 * day + 1440 → 1440 * day + minute ≤ end
+within_day hours resolution day after from span minute end begins every is some g past above within =
+    let e = grid_is_end hours resolution day end every g above within in
+    let same : e.0 ≡ span = cc in
+    let is_end : IsEnd span resolution (end - 1440 * day) = let P : Span → Type 0 = λ s. IsEnd s resolution (end - 1440 * day) in subst P same e.2 in
+    omega (arith, some.2 (end - 1440 * day) is_end (omega arith))
+
+at_least : (hours : Entries) (resolution : Resolution) (day after from : ℕ) (span : Span) (minute end : ℕ) → from ≡ after - 1440 * day → LieInDays hours → span_on hours day ≡ Some span → IsNextEnd span resolution from (Some minute)
+    → (0 < minute) × (minute ≤ 1440) → IsGridEnd hours resolution end → after < end → 1440 * day < end → 1440 * day + minute ≤ end
+at_least hours resolution day after from span minute end begins every is some lies g past above =
+    elim (cases_lt (1440 * day + 1440) end) [ inl later ↦ omega arith | inr within ↦ within_day hours resolution day after from span minute end begins every is some g past above within ]
+
+-- the least end of the day's bars is the least grid end that lies in the day past `after`
+pub next_on-some : (hours : Entries) (resolution : Resolution) (day after from : ℕ) (span : Span) (minute : ℕ) → from ≡ after - 1440 * day → LieInDays hours → span_on hours day ≡ Some span → IsNextEnd span resolution from (Some minute)
+    → IsNextFrom (IsGridEnd hours resolution) (max after (1440 * day)) (1440 * day + 1440) (Some (1440 * day + minute))
+next_on-some hours resolution day after from span minute begins every is some =
+    let lies = end_lies resolution span minute (spans_at hours day span every is) some.0 in
+    (end_is_grid hours resolution day span minute is (spans_at hours day span every is) some.0, omega arith, omega arith, λ end g past. at_least hours resolution day after from span minute end begins every is some lies g (omega arith) (omega arith))
+
+late_day : (hours : Entries) (day : ℕ) → 84005 < day → span_on hours day ≡ None
+late_day hours day late = let is_late : nat_lt 84005 day ≡ true = grind (arith, nat_tests) in rw is_late
+
+none_is_some : {A : Type 0} {x : A} → None ≡ Some x → ⊥
+none_is_some h = cc
+
+day_exists : (hours : Entries) (day : ℕ) (span : Span) → span_on hours day ≡ Some span → day ≤ 84005
+day_exists hours day span is = elim (cases_lt 84005 day) [ inl late ↦ absurd (none_is_some (sym (late_day hours day late) ∙ is)) | inr early ↦ early ]
+
+bar_lies : (hours : Entries) (resolution : Resolution) (end : ℕ) → LieInDays hours → EndsBar hours resolution end → (0 < end) × (end ≤ 120968640)
+bar_lies hours Minute end every g =
+    let met = span_met (span_on hours (g.0 / 1440)) (1440 * (g.0 / 1440)) g.0 end g.2 in
+    let exists = day_exists hours (g.0 / 1440) met.0 met.1 in
+    (omega arith, omega arith)
+bar_lies hours Hour end every g =
+    let met = span_met (span_on hours (g.0 / 1440)) (1440 * (g.0 / 1440)) g.0 end g.2 in
+    let exists = day_exists hours (g.0 / 1440) met.0 met.1 in
+    (omega arith, omega arith)
+bar_lies hours Daily end every g =
+    let closes = span_closing (span_on hours (g.0 / 1440)) (1440 * (g.0 / 1440)) end g.1.1 in
+    let lies = spans_at hours (g.0 / 1440) closes.0 every closes.1 in
+    let exists = day_exists hours (g.0 / 1440) closes.0 closes.1 in
+    (omega arith, omega arith)
+
+-- every grid end lies between 1970 and 24:00 of the last day
+pub grid_lies : (hours : Entries) (resolution : Resolution) (end : ℕ) → LieInDays hours → IsGridEnd hours resolution end → (0 < end) × (end ≤ 120968640)
+grid_lies hours resolution end every g = bar_lies hours resolution end every (bar_at_end hours resolution end g)
+
+starts : (hours : Entries) (resolution : Resolution) (start end : ℕ) → LieInDays hours → IsBar hours resolution start end → start ≡ bar_start resolution end
+starts hours Minute start end every b = omega arith
+starts hours Hour start end every b = omega arith
+starts hours Daily start end every b =
+    let closes = span_closing (span_on hours (start / 1440)) (1440 * (start / 1440)) end b.1 in
+    let lies = spans_at hours (start / 1440) closes.0 every closes.1 in
+    omega arith
+
+pub has_one_bar : (hours : Entries) (resolution : Resolution) → LieInDays hours → HasOneBarAtEnd hours resolution
+has_one_bar hours resolution every start end h =
+    let parts = and_parts (is_bar hours resolution start end) (in_session hours start end) h in
+    starts hours resolution start end every (bar_told hours resolution start end parts.0)
+
+-- the daily bars in session end at the closings of the sessions
+pub daily_end_is_close : (hours : Entries) (t : ℕ) → IsGridEnd hours Daily t → IsClose hours t
+daily_end_is_close hours t g = let b = bar_at_end hours Daily t g in (b.0 / 1440, b.1.1)
+
+close_is_end : (hours : Entries) (day t : ℕ) → LieInDays hours → close_of hours day ≡ Some t → IsGridEnd hours Daily t
+close_is_end hours day t every is =
+    let closes = span_closing (span_on hours day) (1440 * day) t is in
+    let lies = spans_at hours day closes.0 every closes.1 in
+    let is_day : 1440 * day / 1440 ≡ day = omega arith in
+    end_of_bar hours Daily t (1440 * day, (omega arith, rw is_day is), in_session-at hours day closes.0 _ _ is_day closes.1 (omega arith) (omega arith))
+
+pub close_is_daily_end : (hours : Entries) (t : ℕ) → LieInDays hours → IsClose hours t → IsGridEnd hours Daily t
+close_is_daily_end hours t every c = close_is_end hours c.0 t every c.1

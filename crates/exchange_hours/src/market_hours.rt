@@ -1,0 +1,182 @@
+ghost use Rattle.std.specs.Prelude.{◌≡◌, Some, ◌+◌, ◌*◌, ◌<◌, ◌≤◌, max, pos, ◌≤ℤ◌, unsigned_abs, option_map, IfSome};
+ghost use Rattle.exchange_hours.specs.Sessions.{moment, span_on, session, session_value, is_open_at, LieInDays};
+ghost use Rattle.exchange_hours.specs.Grid.{IsGridEnd, IsClose, HasOneBarAtEnd};
+ghost use Rattle.serde_json.specs.View.{view};
+ghost use Rattle.exchange_hours.specs.HoursFile.{hours_of, hours_of_entry, IsAnswer};
+ghost use Rattle.exchange_hours.specs.Next.{IsNext, IsNextFrom, IsNearest};
+
+use crate::closed_days::{read_early_closes, read_holidays};
+use crate::entries::{EarlyClose, Segment};
+use crate::fault::HoursFault;
+use crate::json::{market_entry, read_tree};
+use crate::segments::read_week;
+use crate::sessions::Session;
+use crate::spans::Span;
+use crate::table::spans_of_days;
+use lean_fixed::{Day, Moment, Resolution};
+use serde_json::Value;
+use std::alloc::Global;
+use std::marker::Model;
+
+// 24:00 of the last day, 2199-12-31.
+const LAST_MOMENT: u32 = 120_968_640;
+
+/// The sessions of a market.
+#[derive(Drop)]
+pub struct Hours {
+    segments: Vec<Segment>,
+    holidays: Vec<u32>,
+    early_closes: Vec<EarlyClose>,
+    // What the three lists come to for each day, so that a look-up is one read.
+    spans: Vec<Option<Span>>,
+}
+
+impl Model for Hours {
+    ghost use Rattle.std.specs.Prelude.{ℕ, ◌≡◌, ◌≤◌, vec_len};
+    ghost use Rattle.exchange_hours.specs.Entries.{Entries};
+
+    ghost Value = { Entries };
+
+    ghost use Rattle.exchange_hours.specs.Table.{AreSpans};
+
+    ghost view = { λ h. record { segments = h.segments.items; holidays = h.holidays.items; early_closes = h.early_closes.items } };
+
+    ghost invariant = { λ h. AreSpans (record { segments = h.segments.items; holidays = h.holidays.items; early_closes = h.early_closes.items }) h.spans.items };
+}
+
+impl Hours {
+    /// The hours of US equities by the bytes of an hours file, or the first fault of the file in the order of `HoursFault`.
+    /// The form of the file is that of LEAN's market hours database.
+    pub fn read(alloc: Global, bytes: &[u8]) -> Result<Hours, HoursFault>
+        ensures { IsAnswer (hours_of bytes.now) result }
+    {
+        let tree = read_tree(alloc, bytes)?;
+        match market_entry(&tree) {
+            Some(entry) => Hours::read_entry(alloc, entry),
+            None => Err(HoursFault::NoEntry),
+        }
+    }
+
+    fn read_entry(alloc: Global, entry: &Value) -> Result<Hours, HoursFault>
+        ensures { IsAnswer (hours_of_entry (Some (view entry.now))) result }
+    {
+        let segments = read_week(alloc, entry)?;
+        let holidays = read_holidays(alloc, entry.get("holidays"))?;
+        let early_closes = read_early_closes(alloc, entry.get("earlyCloses"))?;
+        let spans = spans_of_days(alloc, &segments, &holidays, &early_closes)?;
+        Ok(Hours {
+            segments,
+            holidays,
+            early_closes,
+            spans,
+        })
+    }
+
+    /// The session of a day, or `None` exactly where the day has none.
+    pub fn session(&self, day: Day) -> Option<Session>
+        requires from { pos 0 ≤ℤ day.0 }
+        requires to { day.0 ≤ℤ pos 84005 }
+        ensures value { result ≡ option_map session_value (session self.now (unsigned_abs day.0)) }
+        ensures within { LieInDays self.now }
+    {
+        let day = day.0 as u32;
+        match self.span_on(day) {
+            Some(span) => {
+                let midnight = 1440 * day;
+                Some(Session {
+                    opens: moment_at(midnight + span.opens as u32),
+                    closes: moment_at(midnight + span.closes as u32),
+                })
+            }
+            None => None,
+        }
+    }
+
+    /// Whether the exchange is open: at or after the opening of the session of the moment's day, and before its closing.
+    pub fn is_open(&self, at: Moment) -> bool
+        ensures { result ≡ is_open_at self.now at.0 }
+    {
+        if at.0 < 0 || at.0 >= LAST_MOMENT as i64 {
+            return false;
+        }
+        let minute = at.0 as u32;
+        match self.span_on(minute / 1440) {
+            Some(span) => span.opens as u32 <= minute % 1440 && minute % 1440 < span.closes as u32,
+            None => false,
+        }
+    }
+
+    /// The least grid end past `after` and not past `until`, or `None` exactly where there is none.
+    /// The grid ends of a resolution are the ends of all bars that would be in session.
+    pub fn grid_next(&self, resolution: Resolution, after: Moment, until: Moment) -> Option<Moment>
+        ensures next { IsNext (IsGridEnd self.now resolution) after.0 until.0 result }
+        ensures one_bar { HasOneBarAtEnd self.now resolution }
+        ensures within { LieInDays self.now }
+    {
+        match self.end_between(resolution, minute_of(after), minute_of(until)) {
+            Some(end) => Some(moment_at(end)),
+            None => None,
+        }
+    }
+
+    /// The least closing of a session past `after` and not past `until`, or `None` exactly where there is none.
+    pub fn close_next(&self, after: Moment, until: Moment) -> Option<Moment>
+        ensures next { IsNext (IsClose self.now) after.0 until.0 result }
+        ensures within { LieInDays self.now }
+    {
+        self.grid_next(Resolution::Daily, after, until)
+    }
+
+    // The least grid end past one moment and not past another.
+    fn end_between(&self, resolution: Resolution, after: u32, until: u32) -> Option<u32>
+        ensures next { IsNextFrom (IsGridEnd self.now resolution) after until result }
+        ensures within { LieInDays self.now }
+    {
+        let days = self.spans.len() as u32;
+        for day in after / 1440..days.min(until.div_ceil(1440)) {
+            if let Some(end) = self.end_on(resolution, day, after) {
+                return if end <= until { Some(end) } else { None };
+            }
+        }
+        None
+    }
+
+    // The least grid end past a moment that lies after 00:00 of a day and not after its 24:00.
+    fn end_on(&self, resolution: Resolution, day: u32, after: u32) -> Option<u32>
+        requires { day ≤ 84005 }
+        ensures { IsNextFrom (IsGridEnd self.now resolution) (max after (1440 * day)) (1440 * day + 1440) result }
+    {
+        let midnight = 1440 * day;
+        let span = self.span_on(day)?;
+        let minute = span.end_past(resolution, after.saturating_sub(midnight))?;
+        Some(midnight + minute)
+    }
+
+    // The hours of a day, as minutes of the day.
+    fn span_on(&self, day: u32) -> Option<Span>
+        requires { day ≤ 84005 }
+        ensures value { result ≡ span_on self.now day }
+        ensures within { LieInDays self.now }
+    {
+        self.spans[day as usize]
+    }
+}
+
+// The moment, or of those from 1970-01-01 00:00 to `LAST_MOMENT` the one nearest to it.
+fn minute_of(at: Moment) -> u32
+    ensures { IsNearest at.0 result }
+{
+    if at.0 < 0 {
+        0
+    } else if at.0 > LAST_MOMENT as i64 {
+        LAST_MOMENT
+    } else {
+        at.0 as u32
+    }
+}
+
+fn moment_at(minute: u32) -> Moment
+    ensures { result ≡ moment minute }
+{
+    Moment(minute as i64)
+}

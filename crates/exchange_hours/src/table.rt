@@ -1,0 +1,131 @@
+//! The hours of each day, in a table by its number.
+ghost use Rattle.std.specs.Prelude.{◌≡◌, ℕ, ◌<◌, ◌==◌, if◌then◌else◌, length, slice_index_or, Some, None, IfErr, IfOk};
+ghost use Rattle.std.specs.List.{list_any};
+ghost use Rattle.lean_fixed.specs.Calendar.{weekday as day_of_week};
+ghost use Rattle.exchange_hours.specs.Sessions.{widened, usual_span, early_close, shortened, span_on};
+ghost use Rattle.exchange_hours.specs.declared.fault.HoursFault.TheVariants.{NoMemory};
+
+use crate::entries::{EarlyClose, Segment};
+use crate::fault::HoursFault;
+use crate::spans::Span;
+use std::alloc::Global;
+
+const DAYS: usize = 84_006;
+
+/// The hours of each day from 1970-01-01 to 2199-12-31.
+pub(crate) fn spans_of_days(
+    alloc: Global,
+    segments: &[Segment],
+    holidays: &[u32],
+    early_closes: &[EarlyClose],
+) -> Result<Vec<Option<Span>>, HoursFault>
+    ensures whole { IfOk result (λ table. length table.items ≡ 84006) }
+    ensures each { IfOk result (λ table. (day : ℕ) → slice_index_or table.items day None
+        ≡ span_on (record { segments = segments.now; holidays = holidays.now; early_closes = early_closes.now }) day) }
+    ensures refused { IfErr result (λ fault. fault ≡ NoMemory) }
+{
+    let mut table = usual_spans(alloc, segments)?;
+    close_early(&mut table, early_closes);
+    close_on_holidays(&mut table, holidays);
+    Ok(table)
+}
+
+/// The usual hours of each day's weekday.
+fn usual_spans(alloc: Global, segments: &[Segment]) -> Result<Vec<Option<Span>>, HoursFault>
+    ensures whole { IfOk result (λ table. length table.items ≡ 84006) }
+    ensures each { IfOk result (λ table. (day : ℕ) → day < 84006 → slice_index_or table.items day None ≡ usual_span segments.now (day_of_week day)) }
+    ensures refused { IfErr result (λ fault. fault ≡ NoMemory) }
+{
+    let week = usual_week(segments);
+    let mut table = Vec::with_capacity(alloc, DAYS)?;
+    for day in 0..DAYS {
+        table.push(week[(day + 4) % 7])?;
+    }
+    Ok(table)
+}
+
+fn usual_week(segments: &[Segment]) -> [Option<Span>; 7]
+    ensures { (weekday : ℕ) → weekday < 7 → slice_index_or result weekday None ≡ usual_span segments.now weekday }
+{
+    let mut week = [None; 7];
+    for weekday in 0..7 {
+        week[weekday] = usual_span(segments, weekday as u8);
+    }
+    week
+}
+
+/// From the least start to the greatest end of a weekday's market segments.
+fn usual_span(segments: &[Segment], weekday: u8) -> Option<Span>
+    ensures { result ≡ usual_span segments.now weekday }
+{
+    segments
+        .iter()
+        .filter(|s| s.weekday == weekday && s.is_market)
+        .fold(None, widened)
+}
+
+fn widened(span: Option<Span>, segment: &Segment) -> Option<Span>
+    ensures { result ≡ widened span segment.now }
+{
+    match span {
+        Some(span) => Some(Span {
+            opens: span.opens.min(segment.start),
+            closes: span.closes.max(segment.end),
+        }),
+        None => Some(Span {
+            opens: segment.start,
+            closes: segment.end,
+        }),
+    }
+}
+
+/// Ends the hours of each day at its early close.
+fn close_early(table: &mut [Option<Span>], closes: &[EarlyClose])
+    ensures { (day : ℕ) → slice_index_or table.new day None ≡ shortened (slice_index_or table.old day None) (early_close closes.now day) }
+{
+    for close in closes {
+        shorten(table, *close);
+    }
+}
+
+fn shorten(table: &mut [Option<Span>], close: EarlyClose)
+    ensures { (day : ℕ) → slice_index_or table.new day None
+        ≡ (if close.day == day then shortened (slice_index_or table.old day None) (Some close.minute) else slice_index_or table.old day None) }
+{
+    let day = close.day as usize;
+    if day < table.len() {
+        table[day] = shortened(table[day], close.minute);
+    }
+}
+
+fn shortened(span: Option<Span>, minute: u16) -> Option<Span>
+    ensures { result ≡ shortened span (Some minute) }
+{
+    match span {
+        Some(span) if span.opens < minute => Some(Span {
+            opens: span.opens,
+            closes: span.closes.min(minute),
+        }),
+        _ => None,
+    }
+}
+
+/// Leaves no hours on a holiday.
+fn close_on_holidays(table: &mut [Option<Span>], holidays: &[u32])
+    ensures { (day : ℕ) → slice_index_or table.new day None
+        ≡ (if list_any (λ holiday. holiday == day) holidays.now then None else slice_index_or table.old day None) }
+{
+    for holiday in holidays {
+        close(table, *holiday);
+    }
+}
+
+fn close(table: &mut [Option<Span>], holiday: u32)
+    ensures { (day : ℕ) → slice_index_or table.new day None
+        ≡ (if holiday == day then None else slice_index_or table.old day None) }
+{
+    let day = holiday as usize;
+    if day < table.len() {
+        table[day] = None;
+    }
+}
