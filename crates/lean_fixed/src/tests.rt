@@ -149,6 +149,7 @@ fn prints_days_and_moments(rt: HostRuntime) -> Result<(), Fail> {
     for (day, text) in &days {
         assert_eq!(rt; day.as_slice(), text.as_slice());
     }
+    assert_eq!(rt; Day(15_985).digits().as_slice(), b"20131007".as_slice());
     let moments = [
         (printed_moment(rt.alloc(), Moment(0))?, b"19700101 00:00"),
         (

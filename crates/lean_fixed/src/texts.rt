@@ -63,7 +63,7 @@ pub fn day_text(day: Day, out: &mut Vec<u8>) -> Result<(), NoMemory>
     ensures eight { length (day_text (unsigned_abs day.0)) ≡ 8 }
     ensures capacity { vec_capacity out.old ≤ vec_capacity out.new }
 {
-    out.extend_from_slice(&day_bytes(day.0.unsigned_abs()))?;
+    out.extend_from_slice(&day.digits())?;
     Ok(())
 }
 
@@ -116,7 +116,7 @@ fn sign_of(negative: bool) -> &'static [u8]
 }
 
 #[tactic(auto, unfolding(crate::specs::Printed::day_text))]
-fn day_bytes(day: u32) -> [u8; 8]
+pub(crate) fn day_bytes(day: u32) -> [u8; 8]
     requires { day ≤ 84007 }
     ensures { result ≡ day_text day }
 {

@@ -1,9 +1,14 @@
-ghost use Rattle.std.specs.Prelude.{◌≡◌, ◌<◌, ◌≤◌, ◌↔◌, ◌+ℤ◌, ◌≤ℤ◌, pos, unsigned_abs, IsNone, if◌then◌else◌, is_some, IfSome, option_map};
+ghost use Rattle.std.specs.Prelude.{◌≡◌, ◌<◌, ◌≤◌, ◌↔◌, ◌+ℤ◌, ◌≤ℤ◌, true, pos, unsigned_abs, IsNone, if◌then◌else◌, is_some, IfSome, option_map};
+ghost use Rattle.std.specs.List.{list_all};
 ghost use Rattle.jiff_core.specs.Calendar.{IsBetween};
 ghost use Rattle.jiff_core.specs.Date.{epoch_day, IsYmd};
+ghost use Rattle.lean_fixed.specs.Digits.{is_digit};
+ghost use Rattle.lean_fixed.specs.Printed.{day_text};
 ghost use Rattle.lean_fixed.specs.Calendar.{Civil, is_civil, day_number, day_of_digits, civil_of, weekday};
 
 use crate::digits::read_digits;
+use crate::laws::day_reads_back;
+use crate::texts::day_bytes;
 use jiff_core::civil::Date;
 
 /// A day as the number of days since 1970-01-01, from 0 to 84,005, which is 2199-12-31.
@@ -57,6 +62,17 @@ impl Day {
             .weekday()
             .to_sunday_zero_offset()
             .unsigned_abs()
+    }
+
+    /// The eight digits of the day, `yyyyMMdd`.
+    pub fn digits(self) -> [u8; 8]
+        requires low { pos 0 ≤ℤ self.0 }
+        requires high { self.0 ≤ℤ pos 84005 }
+        ensures value { result ≡ day_text (unsigned_abs self.0) }
+        ensures digits { list_all is_digit result ≡ true }
+    {
+        day_reads_back();
+        day_bytes(self.0.unsigned_abs())
     }
 
     /// The day after this one. `None` exactly at the last day, 84,005.
