@@ -1,5 +1,5 @@
 -- What stands in a sink and on the page before it.
-use Rattle.std.specs.Prelude.{◌≡◌, ℕ, List, ◌++◌, Option, option_map}
+use Rattle.std.specs.Prelude.{◌≡◌, ◌<◌, ℕ, List, ◌++◌, length, Option, option_map}
 use Rattle.lean_io.specs.Told.{Rose}
 use Rattle.lean_top.specs.declared.print.Stop.{Stop}
 use Rattle.lean_top.specs.declared.print.Stop.TheVariants.{NoMemory, ReadFault, WriteFault}
@@ -26,3 +26,7 @@ abbrev pub HasCause : ℕ → ℕ → Stop → Type 0
 HasCause before now NoMemory = Unit {0}
 HasCause before now WriteFault = Rose before now
 HasCause before now ReadFault = ⊥
+
+-- fewer than 65,536 bytes, so that another line may be put on the page
+abbrev pub HasRoom : List ℕ → Type 0
+HasRoom page = length page < 65536

@@ -2,7 +2,7 @@
 ghost use Rattle.std.specs.Prelude.{◌≡◌, ◌≤◌, ◌<◌, ◌^◌, ◌++◌, length, flat_map, IfOk, OnOk, OnErr, IfErr};
 ghost use Rattle.lean_top.specs.DailyTape.{tape_line, tape_text};
 ghost use Rattle.lean_top.specs.Entry.{IsDaily};
-ghost use Rattle.lean_top.specs.Printed.{IsTaken, IsPrinted, IsFront, HasCause};
+ghost use Rattle.lean_top.specs.Printed.{IsTaken, IsPrinted, IsFront, HasCause, HasRoom};
 ghost use Rattle.lean_top.specs.Tape.{left, IsReady};
 
 use crate::line::{append_end, append_line};
@@ -32,6 +32,8 @@ pub fn print_tape<S: Sink>(alloc: Global, tape: &mut Tape, out: &mut S) -> Resul
 fn print_rows<S: Sink>(tape: &mut Tape, page: &mut Vec<u8>, out: &mut S) -> Result<u64, Stop>
     requires ready { IsReady tape.old }
     requires few { length (left tape.old) < 2 ^ 64 }
+    requires room { HasRoom page.old.items }
+    ensures room { OnOk result (HasRoom page.new.items) }
     ensures counted { IfOk result (λ rows. rows ≡ length (left tape.old)) }
     ensures printed { OnOk result
         (IsPrinted (S.told out.old) (S.told out.new) page.old.items page.new.items (flat_map tape_line (left tape.old))) }
@@ -51,6 +53,7 @@ fn print_rows<S: Sink>(tape: &mut Tape, page: &mut Vec<u8>, out: &mut S) -> Resu
 /// Prints the line of a row.
 fn print_row<S: Sink>(entry: &(Symbol, Row), page: &mut Vec<u8>, out: &mut S) -> Result<(), Stop>
     requires { IsDaily entry.now.1 }
+    ensures room { OnOk result (HasRoom page.new.items) }
     ensures printed { OnOk result
         (IsPrinted (S.told out.old) (S.told out.new) page.old.items page.new.items (tape_line entry.now)) }
     ensures front { OnErr result

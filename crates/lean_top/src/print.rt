@@ -1,6 +1,6 @@
 //! What is printed stands on a page first, and a full page goes to the sink.
 ghost use Rattle.std.specs.Prelude.{◌≡◌, ◌≤◌, ◌++◌, [], OnOk, OnErr, IfErr};
-ghost use Rattle.lean_top.specs.Printed.{IsPrinted, IsFront, HasCause};
+ghost use Rattle.lean_top.specs.Printed.{IsPrinted, IsFront, HasCause, HasRoom};
 
 use lean_fixed::NoMemory;
 use lean_io::{Sink, WriteFault, write_whole};
@@ -70,6 +70,7 @@ pub fn flush<S: Sink>(page: &mut Vec<u8>, out: &mut S) -> Result<(), Stop>
 /// Writes the page where it is full.
 pub fn turn_page<S: Sink>(page: &mut Vec<u8>, out: &mut S) -> Result<(), Stop>
     ensures ok { OnOk result (IsPrinted (S.told out.old) (S.told out.new) page.old.items page.new.items []) }
+    ensures room { OnOk result (HasRoom page.new.items) }
     ensures front { OnErr result (IsFront (S.told out.old) (S.told out.new) page.old.items) }
     ensures cause { IfErr result (HasCause (S.faults out.old) (S.faults out.new)) }
     ensures grows { S.faults out.old ≤ S.faults out.new }
