@@ -1,0 +1,11 @@
+//! The files of a feed: which there are, in their order, and where they lie in a folder of LEAN's layout. Each answer is
+//! that of a definition over the feed's key, the window and the hours of the exchange.
+#![tactic(auto)]
+
+mod files;
+mod paths;
+#[cfg(test)]
+mod tests;
+
+pub use files::next_file;
+pub use paths::path_text;
