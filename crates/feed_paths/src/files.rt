@@ -1,3 +1,4 @@
+//! The files of a feed by their numbers, in the order in which they are read.
 ghost use Rattle.std.specs.Prelude.{◌≡◌, ◌+◌, ◌-◌, ◌<◌, ◌≤◌, ◌≤ℤ◌, pos, nat_le, is_some, IfNone, IfSome, Some, None, if◌then◌else◌, [], ◌∷◌};
 ghost use Rattle.exchange_hours.specs.Sessions.{session};
 ghost use Rattle.feed_paths.specs.Files.{day_of, is_minute_file, is_coarse_file, count_to, files_after, first_of};
@@ -34,6 +35,7 @@ fn next_coarse(window: Window, after: Option<u32>) -> Option<u32>
     requires { window.last.0 ≤ℤ pos 84005 }
     ensures { IsLeast (is_coarse_file window) (first_past after) (count_to window.last.0) result }
 {
+    // the day before the window, or day 0
     let first = count_before(window.first).saturating_sub(1);
     let day = first.max(first_past(after));
     if day < count_before(window.last) {
@@ -52,6 +54,7 @@ fn next_minute(start: Moment, last: Day, hours: &Hours, after: Option<u32>) -> O
     next_session(hours, from, count_to(last))
 }
 
+// The least day with a session, from one day on and before another.
 fn next_session(hours: &Hours, from: u64, end: u64) -> Option<u32>
     requires { end ≤ 84006 }
     ensures { IsLeast (λ day. is_some (session hours.now day)) from end result }
@@ -64,8 +67,9 @@ fn next_session(hours: &Hours, from: u64, end: u64) -> Option<u32>
     None
 }
 
+// The number of the one file of a feed.
 fn only_file(after: Option<u32>) -> Option<u32>
-    ensures first { result ≡ (if is_some after then None else Some 0) }
+    ensures { result ≡ (if is_some after then None else Some 0) }
 {
     match after {
         Some(_) => None,
@@ -73,6 +77,7 @@ fn only_file(after: Option<u32>) -> Option<u32>
     }
 }
 
+// The day of a moment, or day 0 where it lies before 1970.
 fn day_of(at: Moment) -> u64
     ensures { result ≡ day_of at.0 }
 {
@@ -92,6 +97,7 @@ fn count_before(day: Day) -> u64
     count_to(day).saturating_sub(1)
 }
 
+// The least number past a file's, or past none.
 fn first_past(after: Option<u32>) -> u64
     ensures { result ≡ first_past after }
 {

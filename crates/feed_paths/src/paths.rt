@@ -110,6 +110,7 @@ fn push_whole(folder: &str, symbol: &Symbol, out: &mut String)
     out.push_str(".csv").unwrap();
 }
 
+// The symbol in lower case.
 fn push_lower(symbol: &Symbol, out: &mut String)
     requires { string_len out.old + 12 ≤ string_capacity out.old }
     ensures bytes { string_bytes out.new ≡ string_bytes out.old ++ lower symbol.now }
@@ -130,6 +131,7 @@ fn lower_case(byte: u8) -> char
     byte.to_ascii_lowercase() as char
 }
 
+// The eight digits of the day.
 fn push_day(day: u32, out: &mut String)
     requires day { day ≤ 84005 }
     requires room { string_len out.old + 8 ≤ string_capacity out.old }

@@ -59,31 +59,29 @@ fn equity(symbol: &str, resolution: Resolution) -> Result<FeedKind, Fail> {
     Ok(FeedKind::Equity(symbol, resolution))
 }
 
-// Appends the paths of a feed's files, each with a line feed behind it. The feed starts at this minute.
-fn walk(
-    kind: FeedKind,
-    start: i64,
-    window: Window,
-    hours: &Hours,
-    paths: &mut String,
-) -> Result<(), Fail>
+// Appends the paths of a feed's files, each with a line feed behind it.
+fn walk(key: &FeedKey, window: Window, hours: &Hours, paths: &mut String) -> Result<(), Fail>
     requires { window.last.0 ≤ℤ pos 84005 }
 {
-    let key = FeedKey {
-        kind,
-        start: Moment(start),
-        fill: false,
-    };
     let mut after = None;
     for _ in 0..20 {
-        let Some(file) = next_file(key, window, hours, after) else {
+        let Some(file) = next_file(*key, window, hours, after) else {
             return Ok(());
         };
-        path_text(key, file, paths)?;
+        path_text(*key, file, paths)?;
         paths.push('\n')?;
         after = Some(file);
     }
     Err(Fail::from("more than 20 files"))
+}
+
+// The key of a feed that starts at this minute.
+fn key_of(kind: FeedKind, start: i64) -> FeedKey {
+    FeedKey {
+        kind,
+        start: Moment(start),
+        fill: false,
+    }
 }
 
 // Friday 1970-01-02 is a holiday, and 3 and 4 January are a weekend.
@@ -141,7 +139,8 @@ fn walks_minute_files(rt: HostRuntime) -> Result<(), Fail> {
     for (symbol, start, first, last, paths) in cases {
         let kind = equity(symbol, Resolution::Minute)?;
         let mut found = String::new(rt.alloc());
-        walk(kind, start, window_of(first, last), &hours, &mut found)?;
+        let key = key_of(kind, start);
+        walk(&key, window_of(first, last), &hours, &mut found)?;
         assert_eq!(rt; found.as_str(), paths, "of {symbol} from {start}");
     }
     Ok(())
@@ -169,7 +168,8 @@ fn walks_hour_and_daily_files(rt: HostRuntime) -> Result<(), Fail> {
     for (symbol, resolution, start, paths) in cases {
         let kind = equity(symbol, resolution)?;
         let mut found = String::new(rt.alloc());
-        walk(kind, start, window_of(0, 5), &hours, &mut found)?;
+        let key = key_of(kind, start);
+        walk(&key, window_of(0, 5), &hours, &mut found)?;
         assert_eq!(rt; found.as_str(), paths, "of {symbol} from {start}");
     }
     Ok(())
@@ -207,7 +207,8 @@ fn walks_coarse_files(rt: HostRuntime) -> Result<(), Fail> {
     for (first, last, paths) in cases {
         let window = window_of(first, last);
         let mut found = String::new(rt.alloc());
-        walk(FeedKind::Coarse, 0, window, &hours, &mut found)?;
+        let key = key_of(FeedKind::Coarse, 0);
+        walk(&key, window, &hours, &mut found)?;
         assert_eq!(rt; found.as_str(), paths, "from {first} to {last}");
     }
     Ok(())
