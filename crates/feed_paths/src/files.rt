@@ -1,5 +1,5 @@
 //! The files of a feed by their numbers, in the order in which they are read.
-ghost use Rattle.std.specs.Prelude.{◌≡◌, ◌+◌, ◌-◌, ◌<◌, ◌≤◌, ◌≤ℤ◌, pos, nat_le, is_some, IfNone, IfSome, Some, None, if◌then◌else◌, [], ◌∷◌};
+ghost use Rattle.std.specs.Prelude.{◌≡◌, ◌+◌, ◌-◌, ◌<◌, ◌≤◌, ◌≤ℤ◌, pos, is_some, IfNone, IfSome, Some, None, if◌then◌else◌, [], ◌∷◌};
 ghost use Rattle.exchange_hours.specs.Sessions.{session};
 ghost use Rattle.feed_paths.specs.Files.{day_of, is_minute_file, is_coarse_file, count_to, files_after, first_of};
 ghost use Rattle.feed_paths.specs.Least.{IsLeast, first_past};
@@ -8,11 +8,14 @@ use exchange_hours::Hours;
 use lean_fixed::{Day, Moment, Resolution, Window};
 use lean_items::{FeedKey, FeedKind};
 
-/// The number of a feed's first file, or of the one that follows the file `after`, or `None` exactly where there is none.
+/// The number of a feed's first file, or of the first past the number `after`. `None` exactly where there is none.
 ///
-/// A minute file has its day as its number: the feed has one for each day with a session, from the day of its start to
-/// the last day of the window. So has a coarse file: there is one for each day from the day before the window to the
-/// last but one of the window, and none before 1970. The hour and the daily file of a security have the number 0.
+/// The number of a minute or a coarse file is its day, as days since 1970-01-01. A security has a minute file for each day
+/// with a session, from the day of the feed's start to the last day of the window. There is a coarse file for each day
+/// from the day before the window to the last but one day of the window, and none before 1970, with or without a session.
+/// The hour and the daily file of a security are one each, and have the number 0.
+///
+/// The files are those of US equities in LEAN's "Data Format" topic. The window ends by 2199-12-31, day 84,005.
 pub fn next_file(key: FeedKey, window: Window, hours: &Hours, after: Option<u32>) -> Option<u32>
     requires { window.last.0 ≤ℤ pos 84005 }
     ensures first { result ≡ first_of (files_after key window hours.now after) }

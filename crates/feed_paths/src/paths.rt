@@ -1,9 +1,7 @@
 //! Where the files of a folder lie, after LEAN's folder layout.
-ghost use Rattle.std.specs.Prelude.{◌≡◌, ◌+◌, ◌<◌, ◌≤◌, ◌++◌, true, if◌then◌else◌, is_ok, length, map, IsTrue, OnOk, OnErr, string_bytes, codes, string_len, string_capacity};
-ghost use Rattle.std.specs.List.{list_all};
-ghost use Rattle.lean_fixed.specs.Digits.{is_digit};
+ghost use Rattle.std.specs.Prelude.{◌≡◌, ◌+◌, ◌<◌, ◌≤◌, ◌++◌, true, length, OnOk, OnErr, string_bytes, codes, string_len, string_capacity};
 ghost use Rattle.lean_fixed.specs.Printed.{day_text};
-ghost use Rattle.lean_fixed.specs.Symbol.{is_symbol, is_symbol_byte};
+ghost use Rattle.lean_fixed.specs.Symbol.{is_symbol_byte};
 ghost use Rattle.lean_fixed.specs.declared.resolution.Resolution.TheVariants.{Minute};
 ghost use Rattle.lean_items.specs.declared.feed_key.FeedKind.TheVariants.{Coarse, Equity};
 ghost use Rattle.feed_paths.specs.Paths.{path, path_of, lower, lower_case};
@@ -12,11 +10,12 @@ use lean_fixed::laws::day_reads_back;
 use lean_fixed::{Day, NoMemory, Resolution, Symbol};
 use lean_items::{FeedKey, FeedKind};
 
-/// The most bytes that a path has.
+/// No path has more bytes.
 const MOST: usize = 80;
 
-/// Appends the path of a feed's file, from the folder on. The numbers of files are those of `next_file`. At `NoMemory`
-/// the text is as it was, and it had not the room for 80 more bytes.
+/// Appends the path of a feed's file, from the folder on. The number of the file is one that `next_file` gives: its day,
+/// from 0 to 84,005, or 0 where the feed has one file. `NoMemory` comes only where the text has no room for 80 more bytes,
+/// and leaves it as it was; no path is longer.
 ///
 /// The paths are those of US equities in LEAN's "Data Format" topic, with the symbol in lower case.
 pub fn path_text(key: FeedKey, file: u32, out: &mut String) -> Result<(), NoMemory>
