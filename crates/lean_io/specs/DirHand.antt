@@ -1,21 +1,22 @@
-use Rattle.std.specs.Prelude.{◌≡◌, ℕ, Bool, false, List, Option, Some, None}
+use Rattle.std.specs.Prelude.{◌≡◌, ℕ, Bool, false, List, [], Option, Some, None}
 use Rattle.std.specs.Io.KnownBytes.{prepend_known}
 use Rattle.lean_io.specs.Counts.{raised}
 
--- a hand of a directory: whether a file is open, what of it is not read yet where the runtime's file tells it,
--- and how many faults the hand met
+-- a hand of a directory: whether a file is open, the bytes that were read ahead, what of the file is not read yet where
+-- the runtime's file tells it, and how many faults the hand met
 pub record DirHandState : Type 0 where
   pub is_open : Bool
+  pub ahead : List ℕ
   pub unread : Option (List ℕ)
   pub faults : ℕ
 
 -- a new hand
 abbrev pub new_hand : DirHandState
-new_hand = record { is_open = false; unread = None; faults = 0 }
+new_hand = record { is_open = false; ahead = []; unread = None; faults = 0 }
 
 -- a hand after a call that failed
 abbrev pub failed : DirHandState → DirHandState
-failed h = record { is_open = false; unread = None; faults = raised h.faults 1 }
+failed h = record { is_open = false; ahead = []; unread = None; faults = raised h.faults 1 }
 
 -- what is not read yet of a file: the bytes that were read ahead, and then what the file itself has left
 abbrev pub unread_of : {F : Type 0} → (F → Option (List ℕ)) → List ℕ → Option F → Option (List ℕ)

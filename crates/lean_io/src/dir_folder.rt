@@ -84,7 +84,7 @@ impl<R: Files> Model for DirHand<R> {
 
     ghost Value = { DirHandState };
 
-    ghost view = { λ h. record { is_open = is_some h.file; unread = unread_of R.File.remaining h.ahead h.file; faults = h.faults } };
+    ghost view = { λ h. record { is_open = is_some h.file; ahead = h.ahead; unread = unread_of R.File.remaining h.ahead h.file; faults = h.faults } };
 }
 
 impl<R: Files> DirHand<R> {
@@ -119,9 +119,10 @@ where
 
     ghost faults = { λ h. h.faults };
 
-    // A path without a file is no fault; any other error of the system is one.
+    // A path without a file is no fault; any other error of the system is one. No byte of the file before is kept.
     fn open_file(&mut self, path: &str) -> Result<bool, Failed>
         ensures opened { IfOk result (λ found. self.new.is_open ≡ found) }
+        ensures fresh { OnOk result (self.new.ahead ≡ []) }
         ensures same { OnOk result (self.new.faults ≡ self.old.faults) }
         ensures failed { OnErr result (self.new ≡ failed self.old) }
         ensures grows { self.old.faults ≤ self.new.faults }

@@ -175,6 +175,33 @@ fn a_directory_is_read(rt: HostRuntime) -> Result<(), Fail> {
     Ok(())
 }
 
+// What was read ahead of a file is not given as another's, nor as its own start where it is opened again.
+#[test]
+fn a_file_is_read_from_its_start(rt: HostRuntime) -> Result<(), Fail> {
+    let alloc = rt.alloc();
+    let (first, second) = ("lean_io.of_a_test_1", "lean_io.of_a_test_2");
+    let many = made(alloc, 20_000)?;
+    fs::write(&rt, first, many.as_slice())?;
+    fs::write(&rt, second, b"second")?;
+    let mut folder = DirFolder::new(rt);
+    let mut hand = folder.hand(alloc)?;
+    for (name, whole) in [(second, b"second".as_slice()), (first, many.as_slice())] {
+        let opened = hand.open_file(first);
+        assert_eq!(rt; opened, Ok(true));
+        let mut seven = [0; 7];
+        assert_eq!(rt; hand.read(&mut seven), Ok(7));
+        assert!(rt; many.starts_with(&seven));
+        let opened = hand.open_file(name);
+        assert_eq!(rt; opened, Ok(true));
+        let text = read_in_sevens(alloc, &mut hand)?;
+        assert!(rt; text.as_slice() == whole, "{name}");
+    }
+    folder.take_back(hand);
+    fs::remove_file(&rt, first)?;
+    fs::remove_file(&rt, second)?;
+    Ok(())
+}
+
 #[test]
 fn standard_output_takes_bytes(rt: HostRuntime) -> Result<(), Fail> {
     let mut sink = StdSink::new(rt);

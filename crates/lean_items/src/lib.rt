@@ -5,6 +5,8 @@
 mod bar;
 mod feed_key;
 mod reason;
+#[cfg(test)]
+mod tests;
 
 pub use bar::Bar;
 pub use feed_key::{FeedKey, FeedKind};
