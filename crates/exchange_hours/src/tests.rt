@@ -46,6 +46,9 @@ fn file_of(alloc: Global, members: &str) -> Result<String, AllocError> {
     format!(in alloc; "{{\"entries\":{{\"Equity-usa-[*]\":{{{members}}}}}}}")
 }
 
+const ALL_TUESDAY: &str =
+    ",\"tuesday\":[{\"start\":\"00:00\",\"end\":\"24:00\",\"state\":\"market\"}]";
+
 // Market hours from 09:30 to 16:00 on each day from Monday to Friday, and then further members.
 fn usual_file(alloc: Global, more: &str) -> Result<String, AllocError> {
     let day = "[{\"start\":\"09:30:00\",\"end\":\"16:00:00\",\"state\":\"market\"}]";
@@ -172,6 +175,109 @@ fn names_the_first_fault(rt: HostRuntime) -> Result<(), Fail> {
     Ok(())
 }
 
+#[test]
+fn looks_for_faults_in_order(rt: HostRuntime) -> Result<(), Fail> {
+    let cases: [(&str, HoursFault); 9] = [
+        (
+            "\"monday\":1,\"sunday\":[{\"start\":\"\",\"end\":\"\",\"state\":\"\"}]",
+            HoursFault::TimeForm,
+        ),
+        (
+            "\"monday\":[{\"start\":\"16:00\",\"end\":\"09:30\",\"state\":\"market\"},{\"start\":\"\",\"end\":\"\",\"state\":\"\"}]",
+            HoursFault::DayForm,
+        ),
+        (
+            "\"monday\":[{\"start\":\"\",\"end\":\"\",\"state\":1}]",
+            HoursFault::DayForm,
+        ),
+        (
+            "\"monday\":[{\"start\":\"24:00\",\"end\":\"1.00:00:00\",\"state\":\"market\"}]",
+            HoursFault::DayForm,
+        ),
+        ("\"monday\":null", HoursFault::DayForm),
+        ("\"holidays\":1,\"saturday\":1", HoursFault::DayForm),
+        (
+            "\"earlyCloses\":[],\"friday\":[{\"start\":\"\",\"end\":\"\",\"state\":\"\"}]",
+            HoursFault::TimeForm,
+        ),
+        (
+            "\"earlyCloses\":[],\"holidays\":[\"\"]",
+            HoursFault::Holiday,
+        ),
+        (
+            "\"holidays\":[\"1/1/1900\"],\"earlyCloses\":{\"\":\"13:00\"}",
+            HoursFault::EarlyClose,
+        ),
+    ];
+    for (members, fault) in cases {
+        let file = file_of(rt.alloc(), members)?;
+        assert_eq!(rt;
+            fault_of(rt.alloc(), file.as_bytes()),
+            Some(fault),
+            "in {members}"
+        );
+    }
+    Ok(())
+}
+
+#[test]
+fn refuses_dates(rt: HostRuntime) -> Result<(), Fail> {
+    let dates = [
+        "2/29/2100",
+        "2/30/2012",
+        "0/7/2013",
+        "10/0/2013",
+        "010/7/2013",
+        "10/7/13",
+        "10/7/02013",
+        "10/7",
+        "/7/2013",
+        "10//2013",
+        "10/7/2013/",
+        "10/7/2013 ",
+        "+1/7/2013",
+        "10-7-2013",
+    ];
+    for date in dates {
+        let holiday = format!(in rt.alloc(); "\"holidays\":[\"{date}\"]")?;
+        let file = file_of(rt.alloc(), holiday.as_str())?;
+        let fault = fault_of(rt.alloc(), file.as_bytes());
+        assert_eq!(rt; fault, Some(HoursFault::Holiday), "at {date}");
+        let close = format!(in rt.alloc(); "\"earlyCloses\":{{\"{date}\":\"13:00\"}}")?;
+        let file = file_of(rt.alloc(), close.as_str())?;
+        let fault = fault_of(rt.alloc(), file.as_bytes());
+        assert_eq!(rt; fault, Some(HoursFault::EarlyClose), "at {date}");
+    }
+    Ok(())
+}
+
+#[test]
+fn refuses_times(rt: HostRuntime) -> Result<(), Fail> {
+    let times = [
+        "24:01",
+        "24:00:01",
+        "24:00:00:00",
+        "1.00:00",
+        "1.00:00:00:00",
+        "2.00:00:00",
+        "09:60",
+        "9:30",
+        "009:30",
+        "09:30:01",
+        "09:3",
+        "09.30",
+        " 09:30",
+        "+9:30",
+    ];
+    for time in times {
+        let close = format!(in rt.alloc(); "\"earlyCloses\":{{\"10/7/2013\":\"{time}\"}}")?;
+        let file = file_of(rt.alloc(), close.as_str())?;
+        let fault = fault_of(rt.alloc(), file.as_bytes());
+        assert_eq!(rt; fault, Some(HoursFault::EarlyClose), "at {time}");
+    }
+    Ok(())
+}
+
 // The minutes of Monday 2013-10-07 between which a session is.
 fn minutes_of(session: Option<Session>) -> Option<(i64, i64)> {
     let midnight = 23_018_400;
@@ -186,7 +292,7 @@ fn minutes_of(session: Option<Session>) -> Option<(i64, i64)> {
 
 #[test]
 fn shortens_sessions(rt: HostRuntime) -> Result<(), Fail> {
-    let cases: [(&str, Option<(i64, i64)>); 14] = [
+    let cases: [(&str, Option<(i64, i64)>); 16] = [
         ("", Some((570, 960))),
         (
             ",\"holidays\":[\"10/14/2013\",\"1/1/1900\"]",
@@ -220,6 +326,38 @@ fn shortens_sessions(rt: HostRuntime) -> Result<(), Fail> {
             Some((570, 780)),
         ),
         (
+            ",\"earlyCloses\":{\"10/7/2013\":\"15:59\"}",
+            Some((570, 959)),
+        ),
+        (
+            ",\"earlyCloses\":{\"10/7/2013\":\"16:01\"}",
+            Some((570, 960)),
+        ),
+        (",\"earlyCloses\":{\"10/7/2013\":\"00:00\"}", None),
+        (
+            ",\"earlyCloses\":{\"10/8/2013\":\"13:00\",\"12/31/1969\":\"13:00\",\"1/1/2200\":\"09:00\"}",
+            Some((570, 960)),
+        ),
+        (
+            ",\"earlyCloses\":{\"10/7/2013\":\"13:00\"},\"holidays\":[\"10/7/2013\"]",
+            None,
+        ),
+    ];
+    for (more, minutes) in cases {
+        let hours = read_usual(rt.alloc(), more)?;
+        assert_eq!(rt;
+            minutes_of(hours.session(Day(15_985))),
+            minutes,
+            "in {more}"
+        );
+    }
+    Ok(())
+}
+
+#[test]
+fn joins_segments(rt: HostRuntime) -> Result<(), Fail> {
+    let cases: [(&str, Option<(i64, i64)>); 8] = [
+        (
             ",\"monday\":[{\"start\":\"04:00\",\"end\":\"20:00\",\"state\":\"premarket\"}]",
             None,
         ),
@@ -230,6 +368,23 @@ fn shortens_sessions(rt: HostRuntime) -> Result<(), Fail> {
         (
             ",\"monday\":[{\"start\":\"00:00\",\"end\":\"1.00:00:00\",\"state\":\"market\"}]",
             Some((0, 1440)),
+        ),
+        (",\"monday\":[]", None),
+        (
+            ",\"monday\":[{\"start\":\"09:30\",\"end\":\"16:00\",\"state\":\"Market\"}]",
+            None,
+        ),
+        (
+            ",\"monday\":[{\"start\":\"10:00\",\"end\":\"11:00\",\"state\":\"market\"},{\"start\":\"11:00\",\"end\":\"12:00\",\"state\":\"closed\"},{\"start\":\"12:00\",\"end\":\"13:00\",\"state\":\"market\"}]",
+            Some((600, 780)),
+        ),
+        (
+            ",\"monday\":[{\"start\":\"09:00\",\"end\":\"17:00\",\"state\":\"market\"},{\"start\":\"10:00\",\"end\":\"11:00\",\"state\":\"market\"}]",
+            Some((540, 1020)),
+        ),
+        (
+            ",\"monday\":[{\"start\":\"23:59:00\",\"end\":\"24:00:00\",\"state\":\"market\"}]",
+            Some((1439, 1440)),
         ),
     ];
     for (more, minutes) in cases {
@@ -277,6 +432,90 @@ fn finds_grid_ends(rt: HostRuntime) -> Result<(), Fail> {
         let found = hours.grid_next(resolution, on_friday(after), on_friday(until));
         assert_eq!(rt; since_friday(found), end, "past {after} to {until}");
     }
+    Ok(())
+}
+
+// Friday closes at 13:30, and Monday is a holiday.
+#[test]
+fn finds_grid_ends_round_closed_days(rt: HostRuntime) -> Result<(), Fail> {
+    let cases: [(Resolution, i64, i64, Option<i64>); 11] = [
+        (Resolution::Minute, 809, 10_000, Some(810)),
+        (Resolution::Minute, 810, 10_000, Some(6_331)),
+        (Resolution::Hour, 780, 840, Some(840)),
+        (Resolution::Hour, 780, 839, None),
+        (Resolution::Hour, 840, 10_000, Some(6_360)),
+        (Resolution::Hour, 840, 6_359, None),
+        (Resolution::Daily, 0, 810, Some(810)),
+        (Resolution::Daily, 0, 809, None),
+        (Resolution::Daily, 810, 10_000, Some(6_720)),
+        (Resolution::Daily, 810, 6_719, None),
+        (Resolution::Daily, 10_000, 0, None),
+    ];
+    let closed = ",\"holidays\":[\"10/7/2013\"],\"earlyCloses\":{\"10/4/2013\":\"13:30\"}";
+    let hours = read_usual(rt.alloc(), closed)?;
+    for (resolution, after, until, end) in cases {
+        let found = hours.grid_next(resolution, on_friday(after), on_friday(until));
+        assert_eq!(rt; since_friday(found), end, "past {after} to {until}");
+    }
+    Ok(())
+}
+
+fn minute_of(moment: Option<Moment>) -> Option<i64> {
+    match moment {
+        Some(moment) => Some(moment.0),
+        None => None,
+    }
+}
+
+// The first day is a Thursday and the last one a Tuesday, which is open round the clock here.
+#[test]
+fn finds_grid_ends_at_the_ends_of_the_calendar(rt: HostRuntime) -> Result<(), Fail> {
+    let cases: [(Resolution, i64, i64, Option<i64>); 10] = [
+        (Resolution::Minute, -1, 121_000_000, Some(571)),
+        (Resolution::Hour, i64::MIN, i64::MAX, Some(600)),
+        (Resolution::Daily, -1_440, 960, Some(960)),
+        (Resolution::Daily, i64::MIN, -1, None),
+        (Resolution::Minute, 120_968_639, i64::MAX, Some(120_968_640)),
+        (
+            Resolution::Hour,
+            120_968_580,
+            120_968_640,
+            Some(120_968_640),
+        ),
+        (Resolution::Hour, 120_968_580, 120_968_639, None),
+        (
+            Resolution::Daily,
+            120_967_200,
+            120_968_640,
+            Some(120_968_640),
+        ),
+        (Resolution::Minute, 120_968_640, i64::MAX, None),
+        (Resolution::Daily, i64::MAX, i64::MAX, None),
+    ];
+    let hours = read_usual(rt.alloc(), ALL_TUESDAY)?;
+    for (resolution, after, until, end) in cases {
+        let found = hours.grid_next(resolution, Moment(after), Moment(until));
+        assert_eq!(rt; minute_of(found), end, "past {after} to {until}");
+    }
+    assert!(rt; hours.is_open(Moment(120_967_200)));
+    assert!(rt; hours.is_open(Moment(120_968_639)));
+    assert!(rt; !hours.is_open(Moment(120_968_640)));
+    assert!(rt; !hours.is_open(Moment(i64::MIN)));
+    assert!(rt; !hours.is_open(Moment(i64::MAX)));
+    assert_eq!(rt;
+        hours.session(Day(0)),
+        Some(Session {
+            opens: Moment(570),
+            closes: Moment(960)
+        })
+    );
+    assert_eq!(rt;
+        hours.session(Day(84_005)),
+        Some(Session {
+            opens: Moment(120_967_200),
+            closes: Moment(120_968_640)
+        })
+    );
     Ok(())
 }
 
