@@ -89,7 +89,7 @@ module _ {X : Type 0} (day_of : X → ℕ) where
               first = c.first;
               rest = c.rest;
               after = c.after;
-              is = ap (λ ls. (x ∷ xs) ∷ ls) c.is;
+              is = ap (λ ls. (x ∷ xs) ∷ ls) {y = c.before ++ (c.first ∷ c.rest) ∷ c.after} c.is;
               place = omega (arith, c.place);
               day = c.day;
               before_rise = ((omega arith, up.0.1), c.before_rise);
