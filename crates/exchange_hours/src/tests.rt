@@ -1,7 +1,9 @@
-ghost use Rattle.std.specs.Prelude.{◌≡◌, codes, true, false, ◌∷◌, [], Some, None, Ok, Err, option_and_then};
+ghost use Rattle.std.specs.Prelude.{◌≡◌, ◌+◌, codes, map, true, false, ◌∷◌, [], Some, None, Ok, Err, option_and_then};
 ghost use Rattle.exchange_hours.specs.Entries.{Entries};
 ghost use Rattle.exchange_hours.specs.Times.{time_of, date_of, day_within};
+ghost use Rattle.lean_fixed.specs.declared.resolution.Resolution.TheVariants.{Minute, Hour, Daily};
 ghost use Rattle.exchange_hours.specs.Sessions.{session, is_open};
+ghost use Rattle.exchange_hours.specs.Grid.{is_grid_bar};
 ghost use Rattle.exchange_hours.specs.HoursFile.{hours_of};
 ghost use Rattle.exchange_hours.specs.declared.fault.HoursFault.TheVariants.{NoEntry, Json};
 
@@ -32,6 +34,18 @@ fn worked_dates()
 fn worked_sessions()
     ensures early_close { let hours : Entries = record { segments = record { weekday = 1; is_market = true; start = 570; end = 960 } ∷ []; holidays = 15992 ∷ []; early_closes = record { day = 15985; minute = 780 } ∷ record { day = 15985; minute = 840 } ∷ [] } in
         session hours 15985 ≡ Some (record { opens = 23018970; closes = 23019180 }) }
+{}
+
+// Monday 2013-10-07 is open from 09:30 to 16:00. The hour bar of 09:00 is in session, and that of 16:00 is not.
+fn worked_grid()
+    ensures minutes { let hours : Entries = record { segments = record { weekday = 1; is_market = true; start = 570; end = 960 } ∷ []; holidays = []; early_closes = [] } in
+        map (λ start. is_grid_bar hours Minute start (start + 1)) (23018969 ∷ 23018970 ∷ 23019359 ∷ 23019360 ∷ []) ≡ false ∷ true ∷ true ∷ false ∷ [] }
+    ensures whole_hours { let hours : Entries = record { segments = record { weekday = 1; is_market = true; start = 570; end = 960 } ∷ []; holidays = []; early_closes = [] } in
+        map (λ start. is_grid_bar hours Hour start (start + 60)) (23018880 ∷ 23018940 ∷ 23018970 ∷ 23019300 ∷ 23019360 ∷ []) ≡ false ∷ true ∷ false ∷ true ∷ false ∷ [] }
+    ensures day { let hours : Entries = record { segments = record { weekday = 1; is_market = true; start = 570; end = 960 } ∷ []; holidays = []; early_closes = [] } in
+        map (is_grid_bar hours Daily 23018400) (23019359 ∷ 23019360 ∷ []) ≡ false ∷ true ∷ [] }
+    ensures openings { let hours : Entries = record { segments = record { weekday = 1; is_market = true; start = 570; end = 960 } ∷ []; holidays = []; early_closes = [] } in
+        map (is_open hours) (23018969 ∷ 23018970 ∷ 23019359 ∷ 23019360 ∷ 23020410 ∷ []) ≡ false ∷ true ∷ true ∷ false ∷ false ∷ [] }
 {}
 
 fn worked_files()

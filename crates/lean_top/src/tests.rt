@@ -2,8 +2,10 @@
 ghost use Rattle.std.specs.Prelude.{◌≡◌, ◌∷◌, [], None, Some, codes};
 ghost use Rattle.lean_top.specs.ByDay.{day_by_day};
 ghost use Rattle.lean_top.specs.Command.{command};
-ghost use Rattle.lean_top.specs.DailyFile.{daily_path};
-ghost use Rattle.lean_top.specs.DailyTape.{unbuilt_line};
+ghost use Rattle.lean_fixed.specs.Calendar.{day_of_digits};
+ghost use Rattle.equity_csv.specs.Rows.{row_of};
+ghost use Rattle.lean_top.specs.DailyFile.{daily_path, file_rows};
+ghost use Rattle.lean_top.specs.DailyTape.{tape_line, end_line, unbuilt_line};
 
 use crate::{Status, lean_main, lean_offline};
 use lean_fixed::NoMemory;
@@ -28,6 +30,25 @@ pub fn worked_words()
 pub fn worked_texts()
     ensures path { daily_path (codes "BRK.B") ≡ codes "equity/usa/daily/brk.b.csv" }
     ensures refused { unbuilt_line (codes "SPY") ≡ codes "unbuilt equity/usa/daily/spy.csv\n" }
+{}
+
+// The line of a row, and the line that counts the rows.
+pub fn worked_lines()
+    ensures row { tape_line (codes "SPY", row_of 23018400 1672000 1680000 1670000 1675000 1234)
+        ≡ codes "20131007 SPY 167.2000 168.0000 167.0000 167.5000 1234\n" }
+    ensures end { end_line 2 ≡ codes "end 2 rows\n" }
+{}
+
+// The rows of a file, which is refused where they fall or a line is none. The days of the dates are computed in `lean_fixed`.
+pub fn worked_files()
+    ensures rows { day_of_digits (codes "20000229") ≡ Some 11016 → day_of_digits (codes "20131007") ≡ Some 15985
+        → file_rows (codes "20000229 00:00,1675000,1676000,1650000,1652000,2000\n\n20131007 00:00,1672000,1680000,1670000,1675000,1234\r")
+        ≡ Some (row_of 15863040 1675000 1676000 1650000 1652000 2000 ∷ row_of 23018400 1672000 1680000 1670000 1675000 1234 ∷ []) }
+    ensures falling { day_of_digits (codes "20000229") ≡ Some 11016 → day_of_digits (codes "20131007") ≡ Some 15985
+        → file_rows (codes "20131007 00:00,1,1,1,1,1\n20000229 00:00,1,1,1,1,1\n") ≡ None }
+    ensures same { day_of_digits (codes "20131007") ≡ Some 15985
+        → file_rows (codes "20131007 00:00,1,1,1,1,1\n20131007 00:00,1,1,1,1,1\n") ≡ None }
+    ensures short { file_rows (codes "20131007 00:00,1,2\n") ≡ None }
 {}
 
 // Day by day, and of each day in the order of the lists.
