@@ -5,3 +5,4 @@ pub mod Amount
 pub mod Calendar
 pub mod Padded
 pub mod Printed
+pub mod Ranges
