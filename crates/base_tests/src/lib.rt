@@ -1,0 +1,15 @@
+//! Tests of the base crates by their public calls: outside values as lines of text, and failing reads and writes.
+#![tactic(auto)]
+
+#[cfg(test)]
+mod equity;
+#[cfg(test)]
+mod fixed;
+#[cfg(test)]
+mod hours;
+#[cfg(test)]
+mod io;
+#[cfg(test)]
+mod items;
+#[cfg(test)]
+mod paths;
