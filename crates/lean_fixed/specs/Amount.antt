@@ -25,6 +25,9 @@ units_of text =
     value_of (dollars_of text) * 10000 + value_of (places_of text) * 10 ^ (4 - length (places_of text))
 
 -- an amount of at most 10^20 units
+abbrev pub most_amount : ℕ
+most_amount = 10 ^ 20
+
 abbrev pub amount : List ℕ → Option ℕ
 amount text =
-    if is_amount text && nat_le (units_of text) (10 ^ 20) then Some (units_of text) else None
+    if is_amount text && nat_le (units_of text) most_amount then Some (units_of text) else None

@@ -3,7 +3,7 @@ use Rattle.std.specs.Prelude.{ℕ, ◌==◌, if◌then◌else◌, List, [], ◌�
 use Rattle.std.specs.List.{list_all, before_first, after_first}
 use Rattle.lean_fixed.specs.Digits.{digits}
 
--- a byte at the start of the first of some pieces
+-- a byte at the start of the first of some pieces of a text
 abbrev pub begin_first : ℕ → List (List ℕ) → List (List ℕ)
 begin_first b [] = (b ∷ []) ∷ []
 begin_first b (piece ∷ pieces) = (b ∷ piece) ∷ pieces

@@ -3,6 +3,7 @@ pub mod Fields
 pub mod Symbol
 pub mod Amount
 pub mod Calendar
+pub mod Moments
 pub mod Padded
 pub mod Printed
 pub mod Ranges

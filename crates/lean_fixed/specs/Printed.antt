@@ -3,6 +3,7 @@ use Rattle.std.specs.Prelude.{ℕ, ◌+◌, ◌/◌, ◌%◌, ℤ, unsigned_abs,
 use Rattle.std.specs.Fmt.{sign_text}
 use Rattle.std.specs.Int.{is_negative}
 use Rattle.lean_fixed.specs.Calendar.{Civil, civil_of}
+use Rattle.lean_fixed.specs.Moments.{day_of, minute_of_day}
 
 -- the last two and the last four decimal digits of a number, with their leading zeros
 abbrev pub two_digits : ℕ → List ℕ
@@ -29,5 +30,5 @@ day_text day = date_text (civil_of day)
 
 -- the day of a moment, a space, and HH:mm
 unfoldable pub moment_text : ℕ → List ℕ
-moment_text minute =
-    day_text (minute / 1440) ++ 32 ∷ two_digits (minute % 1440 / 60) ++ 58 ∷ two_digits (minute % 60)
+moment_text moment =
+    day_text (day_of moment) ++ 32 ∷ two_digits (minute_of_day moment / 60) ++ 58 ∷ two_digits (minute_of_day moment % 60)

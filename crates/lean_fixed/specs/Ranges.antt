@@ -1,6 +1,8 @@
 -- The ranges in which the numbers of a backtest lie. Prices and money are in 1/10000 dollar.
-use Rattle.std.specs.Prelude.{ℕ, ◌*◌, ◌^◌, ◌≢◌, ℤ, ◌≤ℤ◌, pos, neg_ℤ}
+use Rattle.std.specs.Prelude.{ℕ, ◌+◌, ◌-◌, ◌≢◌, ℤ, ◌≤ℤ◌, ◌<ℤ◌, pos, neg_ℤ}
+use Rattle.lean_fixed.specs.declared.time.Window.{Window}
 use Rattle.lean_fixed.specs.Calendar.{last_day}
+use Rattle.lean_fixed.specs.Moments.{midnight}
 
 -- from one number to another, both included
 abbrev pub IsWithin : ℤ → ℤ → ℤ → Type 0
@@ -77,11 +79,19 @@ IsDay n = IsWithin (pos 0) (pos last_day) n
 
 -- a first or last day of a window, from 1970-01-02 to 2199-12-30
 abbrev pub IsWindowDay : ℤ → Type 0
-IsWindowDay n = IsWithin (pos 1) (pos 84004) n
+IsWindowDay n = IsWithin (pos 1) (pos (last_day - 1)) n
+
+pub record IsWindow (window : Window) : Type 0 where
+  pub first : IsWindowDay window.first.0
+  pub last : IsWindowDay window.last.0
 
 -- a moment, in minutes since 1970-01-01 00:00
 abbrev pub IsMoment : ℤ → Type 0
 IsMoment n = IsWithin (neg_ℤ (pos 10000)) (pos 121000000) n
+
+-- a moment that lies on one of the days
+abbrev pub IsDatedMoment : ℤ → Type 0
+IsDatedMoment n = (pos 0 ≤ℤ n) × (n <ℤ pos (midnight (last_day + 1)))
 
 -- a moment that may be printed, up to 24:00 of 2200-01-01
 abbrev pub last_printed_moment : ℕ

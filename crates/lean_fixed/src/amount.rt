@@ -1,6 +1,7 @@
 ghost use Rattle.std.specs.Prelude.{◌≡◌, ◌+◌, ◌-◌, ◌*◌, ◌^◌, ◌<◌, ◌≤ℤ◌, ◌&&◌, nat_le, pos, length, position, if◌then◌else◌, option_map, IfSome};
 ghost use Rattle.lean_fixed.specs.Digits.{are_digits, value_of};
-ghost use Rattle.lean_fixed.specs.Amount.{amount, is_amount, is_point, units_of};
+ghost use Rattle.lean_fixed.specs.Amount.{amount, most_amount, is_amount, is_point, units_of};
+ghost use Rattle.lean_fixed.specs.Ranges.{IsWithin};
 
 use crate::Money;
 use crate::digits::read_digits;
@@ -15,7 +16,7 @@ const MOST: u128 = 100_000_000_000_000_000_000;
 /// the form is another or the amount is over 10^20 units; leading zeros are allowed.
 pub fn read_amount(bytes: &[u8]) -> Option<Money>
     ensures value { result ≡ option_map (λ n. record { 0 = pos n }) (amount bytes.now) }
-    ensures range { IfSome result (λ m. (pos 0 ≤ℤ m.0) × (m.0 ≤ℤ pos (10 ^ 20))) }
+    ensures range { IfSome result (λ money. IsWithin (pos 0) (pos most_amount) money.0) }
 {
     let (dollars, places) = split_at_point(bytes);
     let units = read_digits(dollars)? as u128 * UNITS + read_places(places)?;

@@ -9,6 +9,7 @@ mod digits;
 pub mod laws;
 mod memory;
 mod money;
+pub mod ranges;
 mod resolution;
 mod symbol;
 #[cfg(test)]

@@ -1,16 +1,15 @@
 ghost use Rattle.std.specs.Prelude.{◌≡◌, ◌+◌, ◌*◌, ◌/◌, ◌%◌, ◌<◌, ◌≤◌, ◌≤ℤ◌, List, [], ◌∷◌, ◌++◌, length, pos, unsigned_abs, OnOk, OnErr, vec_len, vec_capacity};
 ghost use Rattle.std.specs.Fmt.{sign_text};
 ghost use Rattle.lean_fixed.specs.Printed.{two_digits, four_digits, money_text, day_text, moment_text};
+ghost use Rattle.lean_fixed.specs.Ranges.{IsDay, IsPrintedMoment};
 
+use crate::ranges::MINUTES_PER_DAY;
 use crate::time::date_at;
 use crate::{Day, Moment, Money, NoMemory, Price};
 use itoa::Buffer;
 
 /// The units in a dollar.
 const UNITS: u64 = 10_000;
-
-/// The minutes in a day.
-const MINUTES: u64 = 1_440;
 
 /// Appends a price in dollars: `-` where it is negative, the whole dollars, a point and four digits. At `NoMemory` the
 /// vector is as it was.
@@ -55,8 +54,7 @@ pub fn money_text(money: Money, out: &mut Vec<u8>) -> Result<(), NoMemory>
 
 /// Appends a day as `yyyyMMdd`. At `NoMemory` the vector is as it was.
 pub fn day_text(day: Day, out: &mut Vec<u8>) -> Result<(), NoMemory>
-    requires low { pos 0 ≤ℤ day.0 }
-    requires high { day.0 ≤ℤ pos 84005 }
+    requires { IsDay day.0 }
     ensures ok { OnOk result (out.new.items ≡ out.old.items ++ day_text (unsigned_abs day.0)) }
     ensures err { OnErr result (out.new.items ≡ out.old.items) }
     ensures full { OnErr result (vec_capacity out.old < vec_len out.old + 8) }
@@ -70,8 +68,7 @@ pub fn day_text(day: Day, out: &mut Vec<u8>) -> Result<(), NoMemory>
 /// Appends a moment as its day, a space and `HH:mm`; 24:00 of a day is 00:00 of the next. At `NoMemory` the vector is
 /// as it was.
 pub fn moment_text(moment: Moment, out: &mut Vec<u8>) -> Result<(), NoMemory>
-    requires low { pos 0 ≤ℤ moment.0 }
-    requires high { moment.0 ≤ℤ pos 120970080 }
+    requires { IsPrintedMoment moment.0 }
     ensures ok { OnOk result
         (out.new.items ≡ out.old.items ++ moment_text (unsigned_abs moment.0)) }
     ensures err { OnErr result (out.new.items ≡ out.old.items) }
@@ -132,9 +129,10 @@ fn moment_bytes(minute: u64) -> [u8; 14]
     requires { minute ≤ 120970080 }
     ensures { result ≡ moment_text minute }
 {
-    let [y1, y2, y3, y4, n1, n2, d1, d2] = day_bytes((minute / MINUTES) as u32);
-    let [h1, h2] = two_digits((minute % MINUTES / 60) as u16);
-    let [m1, m2] = two_digits((minute % 60) as u16);
+    let of_day = (minute % MINUTES_PER_DAY as u64) as u16;
+    let [y1, y2, y3, y4, n1, n2, d1, d2] = day_bytes((minute / MINUTES_PER_DAY as u64) as u32);
+    let [h1, h2] = two_digits(of_day / 60);
+    let [m1, m2] = two_digits(of_day % 60);
     [y1, y2, y3, y4, n1, n2, d1, d2, b' ', h1, h2, b':', m1, m2]
 }
 

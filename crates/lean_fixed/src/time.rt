@@ -1,13 +1,16 @@
-ghost use Rattle.std.specs.Prelude.{◌≡◌, ◌<◌, ◌≤◌, ◌↔◌, ◌+ℤ◌, ◌≤ℤ◌, true, pos, unsigned_abs, IsNone, if◌then◌else◌, is_some, IfSome, option_map};
+ghost use Rattle.std.specs.Prelude.{◌≡◌, ◌<◌, ◌≤◌, ◌↔◌, ◌+ℤ◌, ◌≤ℤ◌, true, pos, unsigned_abs, IsNone, IsSome, is_some, IfSome, option_map};
 ghost use Rattle.std.specs.List.{list_all};
 ghost use Rattle.jiff_core.specs.Calendar.{IsBetween};
 ghost use Rattle.jiff_core.specs.Date.{epoch_day, IsYmd};
 ghost use Rattle.lean_fixed.specs.Digits.{is_digit};
 ghost use Rattle.lean_fixed.specs.Printed.{day_text};
-ghost use Rattle.lean_fixed.specs.Calendar.{Civil, is_civil, day_number, day_of_digits, civil_of, weekday};
+ghost use Rattle.lean_fixed.specs.Calendar.{Civil, is_civil, last_day, day_number, day_of_digits, civil_of, weekday};
+ghost use Rattle.lean_fixed.specs.Moments.{minutes_per_day, midnight, day_of, minute_of_day, first_moment, last_moment};
+ghost use Rattle.lean_fixed.specs.Ranges.{IsDay, IsDatedMoment};
 
 use crate::digits::read_digits;
 use crate::laws::day_reads_back;
+use crate::ranges::{LAST_DAY, MINUTES_PER_DAY};
 use crate::texts::day_bytes;
 use jiff_core::civil::Date;
 
@@ -32,15 +35,12 @@ const FIRST_YEAR: u64 = 1970;
 /// The year of the last day.
 const LAST_YEAR: u64 = 2199;
 
-/// The last day, 2199-12-31.
-const LAST_DAY: i32 = 84_005;
-
 impl Day {
     /// The day that `yyyyMMdd` spells. `None` exactly where the bytes are not eight digits that are a date of the civil
     /// calendar from 19700101 to 21991231.
     pub fn read(bytes: &[u8]) -> Option<Day>
         ensures value { result ≡ option_map (λ n. record { 0 = pos n }) (day_of_digits bytes.now) }
-        ensures range { IfSome result (λ d. (pos 0 ≤ℤ d.0) × (d.0 ≤ℤ pos 84005)) }
+        ensures range { IfSome result (λ day. IsDay day.0) }
     {
         if bytes.len() != 8 {
             return None;
@@ -53,8 +53,7 @@ impl Day {
 
     /// The day of the week: 0 for Sunday to 6 for Saturday.
     pub fn weekday(self) -> u8
-        requires low { pos 0 ≤ℤ self.0 }
-        requires high { self.0 ≤ℤ pos 84005 }
+        requires { IsDay self.0 }
         ensures value { result ≡ weekday (unsigned_abs self.0) }
         ensures bound { result < 7 }
     {
@@ -66,8 +65,7 @@ impl Day {
 
     /// The eight digits of the day, `yyyyMMdd`.
     pub fn digits(self) -> [u8; 8]
-        requires low { pos 0 ≤ℤ self.0 }
-        requires high { self.0 ≤ℤ pos 84005 }
+        requires { IsDay self.0 }
         ensures value { result ≡ day_text (unsigned_abs self.0) }
         ensures digits { list_all is_digit result ≡ true }
     {
@@ -77,8 +75,8 @@ impl Day {
 
     /// The day after this one. `None` exactly at the last day, 84,005.
     pub fn next(self) -> Option<Day>
-        requires { self.0 ≤ℤ pos 84005 }
-        ensures none { IsNone result ↔ (self.0 ≡ pos 84005) }
+        requires { IsDay self.0 }
+        ensures none { IsNone result ↔ (self.0 ≡ pos last_day) }
         ensures value { IfSome result (λ day. day.0 ≡ self.0 +ℤ pos 1) }
     {
         if self.0 < LAST_DAY {
@@ -86,6 +84,60 @@ impl Day {
         } else {
             None
         }
+    }
+
+    /// The moment at which the day begins, 00:00.
+    pub fn midnight(self) -> Moment
+        requires { IsDay self.0 }
+        ensures { result.0 ≡ pos (midnight (unsigned_abs self.0)) }
+    {
+        Moment(self.0 as i64 * MINUTES_PER_DAY as i64)
+    }
+}
+
+impl Moment {
+    /// The day on which the moment lies. `None` exactly where it lies on none of the days that there are: before
+    /// 1970-01-01 00:00, or at or after 24:00 of 2199-12-31.
+    pub fn day(self) -> Option<Day>
+        ensures dated { IsSome result ↔ IsDatedMoment self.0 }
+        ensures value { IfSome result (λ day. day.0 ≡ pos (day_of (unsigned_abs self.0))) }
+        ensures range { IfSome result (λ day. IsDay day.0) }
+    {
+        if self.0 < 0 {
+            return None;
+        }
+        let day = self.0 / MINUTES_PER_DAY as i64;
+        if day > LAST_DAY as i64 {
+            return None;
+        }
+        Some(Day(day as i32))
+    }
+
+    /// The minute of the moment's day, from 0 to 1,439.
+    pub fn minute_of_day(self) -> u32
+        requires { pos 0 ≤ℤ self.0 }
+        ensures value { result ≡ minute_of_day (unsigned_abs self.0) }
+        ensures bound { result < minutes_per_day }
+    {
+        (self.0 % MINUTES_PER_DAY as i64) as u32
+    }
+}
+
+impl Window {
+    /// The first moment of the window: 00:00 of its first day.
+    pub fn first_moment(self) -> Moment
+        requires { IsDay self.first.0 }
+        ensures { result.0 ≡ pos (first_moment self) }
+    {
+        self.first.midnight()
+    }
+
+    /// The last moment of the window: 24:00 of its last day.
+    pub fn last_moment(self) -> Moment
+        requires { IsDay self.last.0 }
+        ensures { result.0 ≡ pos (last_moment self) }
+    {
+        Moment(self.last.midnight().0 + MINUTES_PER_DAY as i64)
     }
 }
 
@@ -104,8 +156,7 @@ fn date_of(year: u64, month: u64, day: u64) -> Option<Date>
 fn day_of(date: Date) -> Day
     requires { IsBetween (pos 1970) (pos 2199) date.year }
     ensures value { result.0 ≡ epoch_day date }
-    ensures low { pos 0 ≤ℤ result.0 }
-    ensures high { result.0 ≤ℤ pos 84005 }
+    ensures range { IsDay result.0 }
 {
     Day(date.to_unix_epoch_day())
 }

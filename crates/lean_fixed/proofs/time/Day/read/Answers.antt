@@ -17,4 +17,4 @@ returns-clause-value c =
     let date = c.in_ok-date_of.field-0 in
     let made : ℤ → Option Day = λ z. Some (record { 0 = z }) in
     let number = c.day_of.ensures in
-    rw (parts, ← told.civil) (ap made (number.value ∙ day_number-date date c.in_ok-year.year c.in_ok-month.month c.in_ok-day.day told.parts (rw number.value at number.low)))
+    rw (parts, ← told.civil) (ap made (number.value ∙ day_number-date date c.in_ok-year.year c.in_ok-month.month c.in_ok-day.day told.parts (rw number.value at number.range.0)))
