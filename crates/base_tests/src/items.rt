@@ -1,0 +1,34 @@
+//! The words of a report for the reasons of a malformed line.
+
+use lean_items::Reason;
+use std::test::Fail;
+
+const WORDS: &str = "many
+long
+fields
+time
+price
+volume
+range
+order
+";
+
+#[test]
+fn each_reason_has_its_word(rt: HostRuntime) -> Result<(), Fail> {
+    let mut words = String::new(rt.alloc());
+    for reason in [
+        Reason::Many,
+        Reason::Long,
+        Reason::Fields,
+        Reason::Time,
+        Reason::Price,
+        Reason::Volume,
+        Reason::Range,
+        Reason::Order,
+    ] {
+        words.push_str(reason.word())?;
+        words.push('\n')?;
+    }
+    assert_eq!(rt; words.as_str(), WORDS);
+    Ok(())
+}

@@ -1,7 +1,7 @@
 use lean_fixed::{Moment, Price, Shares};
 
 /// The trades of a security from one moment to another, after the trade bar of LEAN's "Handling Data" topic.
-#[derive(Clone, Copy, Debug, PartialEq, Eq, Hash)]
+#[derive(Clone, Copy, Debug, PartialEq, Eq)]
 pub struct Bar {
     /// The first minute of the bar.
     pub start: Moment,

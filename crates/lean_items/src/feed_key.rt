@@ -1,7 +1,7 @@
 use lean_fixed::{Moment, Resolution, Symbol};
 
 /// What a feed reads.
-#[derive(Clone, Copy, Debug, PartialEq, Eq, Hash)]
+#[derive(Clone, Copy, Debug, PartialEq, Eq)]
 pub enum FeedKind {
     /// The coarse universe files.
     Coarse,
@@ -11,7 +11,7 @@ pub enum FeedKind {
 
 /// What tells two feeds apart: what they read, where they start, and whether they fill forward, after LEAN's topic
 /// "Fill Forward".
-#[derive(Clone, Copy, Debug, PartialEq, Eq, Hash)]
+#[derive(Clone, Copy, Debug, PartialEq, Eq)]
 pub struct FeedKey {
     pub kind: FeedKind,
     /// The feed gives what ends after this moment.

@@ -2,7 +2,7 @@ ghost use Rattle.std.specs.Prelude.{◌≡◌};
 ghost use Rattle.lean_items.specs.Reasons.{reason_text};
 
 /// Why a line of a data file gives no row. Of several reasons of one line the first in this order counts.
-#[derive(Clone, Copy, Debug, PartialEq, Eq, Hash)]
+#[derive(Clone, Copy, Debug, PartialEq, Eq)]
 pub enum Reason {
     /// The file has more lines or rows than are read of it.
     Many,
