@@ -9,7 +9,7 @@ use Rattle.jiff_core.proofs.DateLemmas.{epoch_day_injective}
 use Rattle.jiff_core.specs.declared.civil.date.Date.{Date}
 use Rattle.jiff_core.specs.Date.{epoch_day, IsYmd}
 use Rattle.jiff_core.proofs.MarchLemmas.{day_count-early}
-use Rattle.lean_fixed.specs.Calendar.{Civil, month_length, is_civil, day_number, carried, carried_through, civil_of, weekday}
+use Rattle.lean_fixed.specs.Calendar.{Civil, month_length, is_civil, day_number, carried, carried_through, civil_of, weekday, last_day}
 
 -- months since the year 0
 abbrev pub months : Civil → ℕ
@@ -236,3 +236,13 @@ civil_of-number date n civil number =
     let same = civil_of-date n (as_date n date own) small numbered in
     let year : (civil_of n).year ≡ date.year = cc in
     λ i. record { year = year i; month = sym same.1 i; day = sym same.2 i }
+
+-- its number is that of one of the days that there are
+pub day_number-last : (date : Civil) (n : ℕ) → is_civil date ≡ true → day_number date ≡ n → n ≤ last_day
+day_number-last date n civil number =
+    let is = IsCivilDate-from_is_civil date civil in
+    let z = days_from_civil (pos date.year) date.month date.day in
+    let low = not_before (pos date.year) date.month date.day is.2 (omega (arith, signed_arith)) in
+    let high = not_after (pos date.year) date.month date.day is.2 (omega (arith, signed_arith)) in
+    let numbered : z ≡ pos n = rw number at (sym (pos-unsigned_abs z low)) in
+    omega (arith, signed_arith, numbered, high)

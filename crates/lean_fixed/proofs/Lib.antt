@@ -5,3 +5,5 @@ pub mod SpelledDates
 pub mod PrintedLemmas
 pub mod AmountLemmas
 pub mod RoundTrips
+pub mod PrintsBack
+pub mod MomentTexts

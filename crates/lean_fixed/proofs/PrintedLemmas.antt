@@ -1,9 +1,13 @@
 -- How the texts of money are made of their parts.
-use Rattle.std.proofs.Common.{◌≡◌, ℕ, ◌+◌, ◌/◌, ◌%◌, ◌^◌, ◌<◌, ◌≤◌, List, ◌∷◌, ◌++◌, length, length-append, append_assoc, arith, refl, ℤ, unsigned_abs}
-use Rattle.std.proofs.lemmas.Fmt.{length-decimal-le_wide}
+use Rattle.std.proofs.Common.{◌≡◌, ℕ, ◌+◌, ◌/◌, ◌%◌, ◌^◌, ◌<◌, ◌≤◌, List, [], ◌∷◌, ◌++◌, length, drop, length-append, arith, refl, ap, ◌∙◌, false, rules, FitsSigned, w64, ℤ, pos, negsuc, unsigned_abs}
+use Rattle.std.specs.Int.{w128}
+use lib.Signed.{mag}
+use Rattle.std.proofs.Math.ListN.{set, length-set}
+use Rattle.std.proofs.lemmas.List.{drop-set, drop_all}
+use Rattle.std.proofs.lemmas.Fmt.{decimal_step_wide, length-decimal-le_wide}
 use Rattle.std.specs.Fmt.{decimal, sign_text}
 use Rattle.std.specs.Int.{is_negative}
-use Rattle.lean_fixed.specs.Printed.{four_digits, money_text, units_text, day_text, moment_text}
+use Rattle.lean_fixed.specs.Printed.{four_digits, dollars_text, money_text, units_text, day_text, moment_text}
 
 -- the last four digits are those of the number's last four
 pub four_digits-last : (n : ℕ) → four_digits (n % 10000) ≡ four_digits n
@@ -14,10 +18,29 @@ four_digits-last n =
     let ones : n % 10000 % 10 ≡ n % 10 = omega arith in
     rw (thousands, hundreds, tens, ones) refl
 
--- the pieces that a price or money is appended in
-pub money_text-pieces : (units : ℤ) (n : ℕ) (front : List ℕ) → n ≡ unsigned_abs units → ((front ++ sign_text (is_negative units)) ++ decimal (n / 10000)) ++ 46 ∷ four_digits (n % 10000) ≡ front ++ money_text units
+-- the parts of which the text of a price or of money is made
+pub dollars_text-money : (units : ℤ) (n : ℕ) → n ≡ unsigned_abs units → dollars_text (is_negative units) (n / 10000) (n % 10000) ≡ money_text units
 unfolding money_text units_text
-money_text-pieces units n front e = rw (four_digits-last n, e) (simp append_assoc)
+dollars_text-money units n e = rw (four_digits-last n, e) refl
+
+-- the last five of so many bytes, written one by one from the last on
+set-last : (n : ℕ) (xs rest : List ℕ) (y : ℕ) → n < length xs → drop (n + 1) xs ≡ rest → (drop n (set xs n y) ≡ y ∷ rest) × (length (set xs n y) ≡ length xs)
+set-last n xs rest y small behind = (rw (drop-set xs n y small, behind) refl, length-set xs n y)
+
+pub drop-five_set : (xs : List ℕ) (a b c d e : ℕ) → length xs ≡ 41 → drop 36 (set (set (set (set (set xs 40 e) 39 d) 38 c) 37 b) 36 a) ≡ a ∷ b ∷ c ∷ d ∷ e ∷ []
+drop-five_set xs a b c d e size =
+    let one = set-last 40 xs [] e (omega arith) (drop_all 41 xs (omega arith)) in
+    let two = set-last 39 (set xs 40 e) _ d (omega (arith, one.1)) one.0 in
+    let three = set-last 38 (set (set xs 40 e) 39 d) _ c (omega (arith, one.1, two.1)) two.0 in
+    let four = set-last 37 (set (set (set xs 40 e) 39 d) 38 c) _ b (omega (arith, one.1, two.1, three.1)) three.0 in
+    (set-last 36 (set (set (set (set xs 40 e) 39 d) 38 c) 37 b) _ a (omega (arith, one.1, two.1, three.1, four.1)) four.0).0
+
+-- so many whole dollars have at most 35 digits, and without the last one there is one digit less
+pub length-dollars : (dollars : ℕ) → dollars < 10 ^ 35 → length (decimal dollars) ≤ 35
+length-dollars dollars small = length-decimal-le_wide 35 dollars (omega arith) small (omega arith)
+
+pub length-dollars_step : (dollars : ℕ) → 10 ≤ dollars → dollars < 10 ^ 64 → length (decimal dollars) ≡ length (decimal (dollars / 10)) + 1
+length-dollars_step dollars low high = ap length (decimal_step_wide dollars low high) ∙ length-append _ _
 
 -- a text of at most so many dollars
 pub length-money_text : (units : ℤ) (digits : ℕ) → 0 < digits → unsigned_abs units / 10000 < 10 ^ digits → unsigned_abs units / 10000 < 10 ^ 64 → length (money_text units) ≤ digits + 6
@@ -34,3 +57,24 @@ length-day_text day = refl
 pub length-moment_text : (minute : ℕ) → length (moment_text minute) ≡ 14
 unfolding moment_text day_text
 length-moment_text minute = refl
+
+is_negative-pos : (units : ℕ) → is_negative (pos units) ≡ false
+is_negative-pos units = search rules
+
+pub money_text-pos : (units : ℕ) → money_text (pos units) ≡ units_text units
+unfolding money_text
+money_text-pos units = rw (is_negative-pos units) refl
+
+unsigned_abs-mag : (units : ℤ) → unsigned_abs units ≤ mag units + 1
+unsigned_abs-mag (pos n) = omega arith
+unsigned_abs-mag (negsuc n) = omega arith
+
+pub length-price_text : (price : ℤ) → FitsSigned w64 price → length (money_text price) ≤ 21
+length-price_text price fits =
+    let small = unsigned_abs-mag price in
+    length-money_text price 15 (omega arith) (omega (arith, fits.sfits)) (omega (arith, fits.sfits))
+
+pub length-any_money_text : (money : ℤ) → FitsSigned w128 money → length (money_text money) ≤ 41
+length-any_money_text money fits =
+    let small = unsigned_abs-mag money in
+    length-money_text money 35 (omega arith) (omega (arith, fits.sfits)) (omega (arith, fits.sfits))

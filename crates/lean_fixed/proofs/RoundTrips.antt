@@ -15,7 +15,7 @@ use Rattle.lean_fixed.specs.Calendar.{Civil, is_civil, day_number, spelled, day_
 use Rattle.lean_fixed.specs.Printed.{two_digits, four_digits, units_text, date_text, day_text}
 use Rattle.std.proofs.lemmas.List.{take-append-drop, drop-drop, take_all, drop_all, length-drop, length-take-le}
 use Rattle.lean_fixed.proofs.SpelledDates.{split_at}
-use Rattle.lean_fixed.proofs.CalendarWalk.{IsDateOf, civil_of-is, civil_of-year, civil_of-number}
+use Rattle.lean_fixed.proofs.CalendarWalk.{day_number-last, IsDateOf, civil_of-is, civil_of-year, civil_of-number}
 use Rattle.jiff_core.specs.Calendar.{days_in_month}
 use Rattle.jiff_core.proofs.CalendarLemmas.{days_in_month_bounds}
 
@@ -28,7 +28,7 @@ pub record IsSpelling (n : ℕ) (bytes : List ℕ) : Type 0 where
 digit_range : (b : ℕ) → is_digit b ≡ true → (48 ≤ b) × (b ≤ 57)
 digit_range b digit = grind (arith, nat_tests)
 
-is_digit-last : (n : ℕ) → is_digit (48 + n % 10) ≡ true
+pub is_digit-last : (n : ℕ) → is_digit (48 + n % 10) ≡ true
 is_digit-last n = grind (arith, nat_tests)
 
 one_digit : (n : ℕ) → n < 10 → IsSpelling n ((48 + n) ∷ [])
@@ -88,7 +88,7 @@ point-behind (b ∷ front) rest all =
     let none : is_point b ≡ false = grind (arith, nat_tests) in
     rw (none, point-behind front rest both.1) (omega arith)
 
-parts-amount : (front : List ℕ) (rest : List ℕ) → list_all is_digit front ≡ true → (dollars_of (front ++ 46 ∷ rest) ≡ front) × (places_of (front ++ 46 ∷ rest) ≡ rest)
+pub parts-amount : (front : List ℕ) (rest : List ℕ) → list_all is_digit front ≡ true → (dollars_of (front ++ 46 ∷ rest) ≡ front) × (places_of (front ++ 46 ∷ rest) ≡ rest)
 parts-amount front rest all =
     rw (point-behind front rest all) (take-append_seam front (46 ∷ rest), drop-append-add front (46 ∷ rest) 1)
 
@@ -114,6 +114,10 @@ spelled-date_text date year month day =
 
 date_text-digits : (date : Civil) → list_all is_digit (date_text date) ≡ true
 date_text-digits date = simp is_digit-last
+
+pub day_text-digits : (day : ℕ) → list_all is_digit (day_text day) ≡ true
+unfolding day_text
+day_text-digits day = date_text-digits (civil_of day)
 
 -- the date of a day is one that is read
 is_civil-civil_of : (n : ℕ) → n ≤ last_day → is_civil (civil_of n) ≡ true
@@ -154,7 +158,7 @@ four-digits_back a b c d all =
     λ i. ea i ∷ eb i ∷ ec i ∷ ed i ∷ []
 
 -- digits are printed again as they were read
-four-back : (bytes : List ℕ) → length bytes ≡ 4 → list_all is_digit bytes ≡ true → four_digits (value_of bytes) ≡ bytes
+pub four-back : (bytes : List ℕ) → length bytes ≡ 4 → list_all is_digit bytes ≡ true → four_digits (value_of bytes) ≡ bytes
 four-back [] long all = absurd (omega arith)
 four-back (a ∷ []) long all = absurd (omega arith)
 four-back (a ∷ b ∷ []) long all = absurd (omega arith)
@@ -162,7 +166,7 @@ four-back (a ∷ b ∷ c ∷ []) long all = absurd (omega arith)
 four-back (a ∷ b ∷ c ∷ d ∷ []) long all = four-digits_back a b c d all
 four-back (a ∷ b ∷ c ∷ d ∷ e ∷ bytes) long all = absurd (omega arith)
 
-two-back : (bytes : List ℕ) → length bytes ≡ 2 → list_all is_digit bytes ≡ true → two_digits (value_of bytes) ≡ bytes
+pub two-back : (bytes : List ℕ) → length bytes ≡ 2 → list_all is_digit bytes ≡ true → two_digits (value_of bytes) ≡ bytes
 two-back [] long all = absurd (omega arith)
 two-back (a ∷ []) long all = absurd (omega arith)
 two-back (a ∷ b ∷ []) long all =
@@ -204,3 +208,8 @@ day_text-day_of_digits text day read =
     let tell = day_of_digits-tell text day read in
     let date = civil_of-number (spelled text) day tell.2 tell.3 in
     rw date (date_text-spelled text tell.0 tell.1)
+
+pub day_of_digits-last : (text : List ℕ) (day : ℕ) → day_of_digits text ≡ Some day → day ≤ last_day
+day_of_digits-last text day read =
+    let tell = day_of_digits-tell text day read in
+    day_number-last (spelled text) day tell.2 tell.3

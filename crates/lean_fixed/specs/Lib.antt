@@ -7,3 +7,4 @@ pub mod Moments
 pub mod Padded
 pub mod Printed
 pub mod Ranges
+pub mod ReadBack

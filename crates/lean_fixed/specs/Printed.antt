@@ -1,5 +1,5 @@
 -- The texts that reports are made of.
-use Rattle.std.specs.Prelude.{ℕ, ◌+◌, ◌/◌, ◌%◌, ℤ, unsigned_abs, List, [], ◌∷◌, ◌++◌, decimal}
+use Rattle.std.specs.Prelude.{ℕ, ◌+◌, ◌/◌, ◌%◌, Bool, ℤ, unsigned_abs, List, [], ◌∷◌, ◌++◌, decimal}
 use Rattle.std.specs.Fmt.{sign_text}
 use Rattle.std.specs.Int.{is_negative}
 use Rattle.lean_fixed.specs.Calendar.{Civil, civil_of}
@@ -11,6 +11,10 @@ two_digits n = (48 + n / 10 % 10) ∷ (48 + n % 10) ∷ []
 
 abbrev pub four_digits : ℕ → List ℕ
 four_digits n = two_digits (n / 100) ++ two_digits n
+
+-- whole dollars, a point and the last four digits of a number, with '-' before them where they are negative
+abbrev pub dollars_text : Bool → ℕ → ℕ → List ℕ
+dollars_text negative dollars places = sign_text negative ++ (decimal dollars ++ 46 ∷ four_digits places)
 
 -- a number of 1/10000 dollar: the whole dollars, a point and four digits
 unfoldable pub units_text : ℕ → List ℕ

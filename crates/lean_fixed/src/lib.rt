@@ -1,7 +1,8 @@
 //! Exact numbers of a backtest: prices and money in 1/10000 dollar, days and moments of the exchange's clock, symbols,
 //! and the texts in which they are read and printed. A reading answers `None` exactly where the text has another form or
-//! its value is out of range, what is appended is the text of the definition, byte for byte, and what is printed is read
-//! back as the same value.
+//! its value is out of range, and what is appended is the text of the definition, byte for byte. The printed texts of
+//! days, of moments up to 24:00 of 2200-01-01, of amounts from 0 to 10^20 units and of numbers up to 10^18 are read as
+//! the same value, and no other text of that spelling is (`laws`).
 #![tactic(auto)]
 
 mod amount;
@@ -12,10 +13,9 @@ mod money;
 pub mod ranges;
 mod resolution;
 mod symbol;
-#[cfg(test)]
-mod tests;
 mod texts;
 mod time;
+mod worked;
 
 pub use amount::read_amount;
 pub use digits::read_digits;

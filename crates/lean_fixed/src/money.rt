@@ -1,18 +1,24 @@
-/// A price of one share in 1/10000 dollar, the unit of LEAN's equity files.
-#[derive(Clone, Copy, Debug, PartialEq, Eq, PartialOrd, Ord, Hash)]
+/// A price of one share in 1/10000 dollar, the unit of LEAN's equity files. The price of a bar, an order or a mark is 1 to
+/// 10,000,000,000, and that of a fill 1 to 10,001,000,000.
+#[derive(Clone, Copy, Debug, PartialEq, Eq, PartialOrd, Ord)]
 pub struct Price(pub i64);
 
-/// An amount of money in 1/10000 dollar.
-#[derive(Clone, Copy, Debug, PartialEq, Eq, PartialOrd, Ord, Hash)]
+/// An amount of money in 1/10000 dollar, within 10^30 either way. A fee is 0 to 10^15, and the cash with which a backtest
+/// starts 1 to 10^20.
+#[derive(Clone, Copy, Debug, PartialEq, Eq, PartialOrd, Ord)]
 pub struct Money(pub i128);
 
-/// A number of shares: a volume, or the signed quantity of an order or a position.
-#[derive(Clone, Copy, Debug, PartialEq, Eq, PartialOrd, Ord, Hash)]
+/// A number of shares. The volume of a bar is 0 to 10^15, and that of a consolidated bar up to 1,440 times as much. The
+/// quantity of an order or a fill is positive where shares are bought, not 0, and within 10^9 either way. A position is
+/// negative where shares are owed, and within 10^15 either way.
+#[derive(Clone, Copy, Debug, PartialEq, Eq, PartialOrd, Ord)]
 pub struct Shares(pub i64);
 
 /// Whether shares are bought or sold.
-#[derive(Clone, Copy, Debug, PartialEq, Eq, Hash)]
+#[derive(Clone, Copy, Debug, PartialEq, Eq)]
 pub enum Side {
+    /// Shares are bought: the quantity is positive.
     Buy,
+    /// Shares are sold: the quantity is negative.
     Sell,
 }

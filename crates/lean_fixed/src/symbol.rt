@@ -1,4 +1,4 @@
-ghost use Rattle.std.specs.Prelude.{◌≡◌, ◌≤◌, IsTrue, length, if◌then◌else◌, nat_eq, refl, Some};
+ghost use Rattle.std.specs.Prelude.{◌≡◌, if◌then◌else◌, nat_eq, refl, Some};
 ghost use Rattle.std.specs.List.{list_all};
 ghost use Rattle.std.specs.Ordering.{nat_cmp};
 ghost use Rattle.std.specs.Cmp.{partial_equiv_from_equiv};
@@ -59,9 +59,7 @@ impl Symbol {
 
     /// The bytes of the name.
     pub fn bytes(&self) -> &[u8]
-        ensures value { result.now ≡ self.now }
-        ensures symbol { IsTrue (is_symbol self.now) }
-        ensures short { length self.now ≤ 12 }
+        ensures { result.now ≡ self.now }
     {
         &self.padded[..self.len as usize]
     }

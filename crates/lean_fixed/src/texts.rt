@@ -1,52 +1,52 @@
-ghost use Rattle.std.specs.Prelude.{◌≡◌, ◌+◌, ◌*◌, ◌/◌, ◌%◌, ◌<◌, ◌≤◌, ◌≤ℤ◌, List, [], ◌∷◌, ◌++◌, length, pos, unsigned_abs, OnOk, OnErr, vec_len, vec_capacity};
+ghost use Rattle.std.specs.Prelude.{◌≡◌, ◌+◌, ◌*◌, ◌/◌, ◌%◌, ◌^◌, ◌<◌, ◌≤◌, ◌≤ℤ◌, List, [], ◌∷◌, ◌++◌, length, drop, decimal, pos, unsigned_abs, OnOk, OnErr, vec_len, vec_capacity};
 ghost use Rattle.std.specs.Fmt.{sign_text};
-ghost use Rattle.lean_fixed.specs.Printed.{two_digits, four_digits, money_text, day_text, moment_text};
+ghost use Rattle.lean_fixed.specs.Printed.{two_digits, four_digits, dollars_text, money_text, day_text, moment_text};
 ghost use Rattle.lean_fixed.specs.Ranges.{IsDay, IsPrintedMoment};
 
 use crate::ranges::MINUTES_PER_DAY;
 use crate::time::date_at;
 use crate::{Day, Moment, Money, NoMemory, Price};
-use itoa::Buffer;
+use itoa::write_digits;
 
 /// The units in a dollar.
 const UNITS: u64 = 10_000;
 
+/// The bytes of the longest text of money: a sign, 35 digits, a point and four digits.
+const LONGEST: usize = 41;
+
+/// Where the point stands in that many bytes.
+const POINT: usize = 36;
+
 /// Appends a price in dollars: `-` where it is negative, the whole dollars, a point and four digits. At `NoMemory` the
 /// vector is as it was.
-#[tactic(auto, unfolding(crate::specs::Printed::money_text, crate::specs::Printed::units_text))]
 pub fn price_text(price: Price, out: &mut Vec<u8>) -> Result<(), NoMemory>
     ensures ok { OnOk result (out.new.items ≡ out.old.items ++ money_text price.0) }
     ensures err { OnErr result (out.new.items ≡ out.old.items) }
     ensures full { OnErr result
         (vec_capacity out.old < vec_len out.old + length (money_text price.0)) }
-    ensures short { length (money_text price.0) ≤ 21 }
     ensures capacity { vec_capacity out.old ≤ vec_capacity out.new }
 {
     let units = price.0.unsigned_abs();
-    let mut dollars = Buffer::new();
     append_dollars(
         price.0.is_negative(),
-        dollars.format(units / UNITS).as_bytes(),
+        (units / UNITS) as u128,
         (units % UNITS) as u16,
         out,
     )
 }
 
 /// Appends an amount of money in the same form. At `NoMemory` the vector is as it was.
-#[tactic(auto, unfolding(crate::specs::Printed::money_text, crate::specs::Printed::units_text))]
 pub fn money_text(money: Money, out: &mut Vec<u8>) -> Result<(), NoMemory>
     ensures ok { OnOk result (out.new.items ≡ out.old.items ++ money_text money.0) }
     ensures err { OnErr result (out.new.items ≡ out.old.items) }
     ensures full { OnErr result
         (vec_capacity out.old < vec_len out.old + length (money_text money.0)) }
-    ensures short { length (money_text money.0) ≤ 41 }
     ensures capacity { vec_capacity out.old ≤ vec_capacity out.new }
 {
     let units = money.0.unsigned_abs();
-    let mut dollars = Buffer::new();
     append_dollars(
         money.0.is_negative(),
-        dollars.format(units / UNITS as u128).as_bytes(),
+        units / UNITS as u128,
         (units % UNITS as u128) as u16,
         out,
     )
@@ -58,7 +58,6 @@ pub fn day_text(day: Day, out: &mut Vec<u8>) -> Result<(), NoMemory>
     ensures ok { OnOk result (out.new.items ≡ out.old.items ++ day_text (unsigned_abs day.0)) }
     ensures err { OnErr result (out.new.items ≡ out.old.items) }
     ensures full { OnErr result (vec_capacity out.old < vec_len out.old + 8) }
-    ensures eight { length (day_text (unsigned_abs day.0)) ≡ 8 }
     ensures capacity { vec_capacity out.old ≤ vec_capacity out.new }
 {
     out.extend_from_slice(&day.digits())?;
@@ -73,43 +72,75 @@ pub fn moment_text(moment: Moment, out: &mut Vec<u8>) -> Result<(), NoMemory>
         (out.new.items ≡ out.old.items ++ moment_text (unsigned_abs moment.0)) }
     ensures err { OnErr result (out.new.items ≡ out.old.items) }
     ensures full { OnErr result (vec_capacity out.old < vec_len out.old + 14) }
-    ensures fourteen { length (moment_text (unsigned_abs moment.0)) ≡ 14 }
     ensures capacity { vec_capacity out.old ≤ vec_capacity out.new }
 {
     out.extend_from_slice(&moment_bytes(moment.0.unsigned_abs()))?;
     Ok(())
 }
 
-// The sign, the whole dollars, a point and four digits.
+// Appends the sign, the whole dollars, a point and four digits, which are written into one array from its end on.
 fn append_dollars(
     negative: bool,
-    dollars: &[u8],
-    units: u16,
+    dollars: u128,
+    places: u16,
     out: &mut Vec<u8>,
 ) -> Result<(), NoMemory>
-    requires { length dollars.now ≤ 40 }
-    ensures ok { OnOk result (out.new.items
-        ≡ out.old.items ++ sign_text negative ++ dollars.now ++ 46 ∷ four_digits units) }
+    requires { dollars < 10 ^ 35 }
+    ensures ok { OnOk result
+        (out.new.items ≡ out.old.items ++ dollars_text negative dollars places) }
     ensures err { OnErr result (out.new.items ≡ out.old.items) }
-    ensures full { OnErr result (vec_capacity out.old
-        < vec_len out.old + length (sign_text negative) + length dollars.now + 5) }
+    ensures full { OnErr result
+        (vec_capacity out.old < vec_len out.old + length (dollars_text negative dollars places)) }
     ensures capacity { vec_capacity out.old ≤ vec_capacity out.new }
 {
-    let sign = sign_of(negative);
-    let point = b".";
-    let places = four_digits(units);
-    out.reserve(sign.len() + dollars.len() + point.len() + places.len())?;
-    out.extend_from_slice(sign).unwrap();
-    out.extend_from_slice(dollars).unwrap();
-    out.extend_from_slice(point).unwrap();
-    out.extend_from_slice(&places).unwrap();
+    let mut text = [0; LONGEST];
+    write_places(places, &mut text);
+    let dollars = write_dollars(dollars, &mut text);
+    let start = write_sign(negative, &mut text, dollars);
+    out.extend_from_slice(&text[start..])?;
     Ok(())
 }
 
-fn sign_of(negative: bool) -> &'static [u8]
-    ensures { result.now ≡ sign_text negative }
+// Writes a point and four digits at the end.
+fn write_places(places: u16, text: &mut [u8; LONGEST])
+    ensures { drop 36 text.new ≡ 46 ∷ four_digits places }
 {
-    if negative { b"-" } else { b"" }
+    let [thousands, hundreds, tens, ones] = four_digits(places);
+    text[POINT + 4] = ones;
+    text[POINT + 3] = tens;
+    text[POINT + 2] = hundreds;
+    text[POINT + 1] = thousands;
+    text[POINT] = b'.';
+}
+
+// Writes the whole dollars before the point, and says where they start. The digits past 64 bits go one at a time.
+fn write_dollars(dollars: u128, text: &mut [u8; LONGEST]) -> usize
+    requires { dollars < 10 ^ 35 }
+    ensures start { result + length (decimal dollars) ≡ 36 }
+    ensures room { 0 < result }
+    ensures written { drop result text.new ≡ decimal dollars ++ drop 36 text.old }
+{
+    let mut left = dollars;
+    let mut at = POINT;
+    while left > u64::MAX as u128 {
+        at -= 1;
+        text[at] = b'0' + (left % 10) as u8;
+        left /= 10;
+    }
+    write_digits(left as u64, text, at)
+}
+
+// Writes the sign of a negative amount before its first digit, and says where the text starts.
+fn write_sign(negative: bool, text: &mut [u8; LONGEST], digits: usize) -> usize
+    requires { (0 < digits) × (digits ≤ 41) }
+    ensures within { result ≤ digits }
+    ensures written { drop result text.new ≡ sign_text negative ++ drop digits text.old }
+{
+    if !negative {
+        return digits;
+    }
+    text[digits - 1] = b'-';
+    digits - 1
 }
 
 #[tactic(auto, unfolding(crate::specs::Printed::day_text))]
@@ -145,9 +176,9 @@ fn two_digits(number: u16) -> [u8; 2]
 fn four_digits(number: u16) -> [u8; 4]
     ensures { result ≡ four_digits number }
 {
-    let [hundreds, tens] = two_digits(number / 100);
-    let [ones, last] = two_digits(number);
-    [hundreds, tens, ones, last]
+    let [thousands, hundreds] = two_digits(number / 100);
+    let [tens, ones] = two_digits(number);
+    [thousands, hundreds, tens, ones]
 }
 
 // The last decimal digit.

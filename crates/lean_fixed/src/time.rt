@@ -9,21 +9,21 @@ ghost use Rattle.lean_fixed.specs.Moments.{minutes_per_day, midnight, day_of, mi
 ghost use Rattle.lean_fixed.specs.Ranges.{IsDay, IsDatedMoment};
 
 use crate::digits::read_digits;
-use crate::laws::day_reads_back;
 use crate::ranges::{LAST_DAY, MINUTES_PER_DAY};
 use crate::texts::day_bytes;
 use jiff_core::civil::Date;
 
 /// A day as the number of days since 1970-01-01, from 0 to 84,005, which is 2199-12-31.
-#[derive(Clone, Copy, Debug, PartialEq, Eq, PartialOrd, Ord, Hash)]
+#[derive(Clone, Copy, Debug, PartialEq, Eq, PartialOrd, Ord)]
 pub struct Day(pub i32);
 
 /// A moment as the number of minutes since 1970-01-01 00:00 in the exchange's local time, from -10,000 to 121,000,000.
-#[derive(Clone, Copy, Debug, PartialEq, Eq, PartialOrd, Ord, Hash)]
+#[derive(Clone, Copy, Debug, PartialEq, Eq, PartialOrd, Ord)]
 pub struct Moment(pub i64);
 
-/// The days of a run, both included. Its first moment is 00:00 of the first day, and its last one 24:00 of the last day.
-#[derive(Clone, Copy, Debug, PartialEq, Eq, Hash)]
+/// The days of a run, both included, each from 1970-01-02 to 2199-12-30. Its first moment is 00:00 of the first day, and
+/// its last one 24:00 of the last day.
+#[derive(Clone, Copy, Debug)]
 pub struct Window {
     pub first: Day,
     pub last: Day,
@@ -54,8 +54,7 @@ impl Day {
     /// The day of the week: 0 for Sunday to 6 for Saturday.
     pub fn weekday(self) -> u8
         requires { IsDay self.0 }
-        ensures value { result ≡ weekday (unsigned_abs self.0) }
-        ensures bound { result < 7 }
+        ensures { result ≡ weekday (unsigned_abs self.0) }
     {
         date_at(self.0.unsigned_abs())
             .weekday()
@@ -66,10 +65,8 @@ impl Day {
     /// The eight digits of the day, `yyyyMMdd`.
     pub fn digits(self) -> [u8; 8]
         requires { IsDay self.0 }
-        ensures value { result ≡ day_text (unsigned_abs self.0) }
-        ensures digits { list_all is_digit result ≡ true }
+        ensures { result ≡ day_text (unsigned_abs self.0) }
     {
-        day_reads_back();
         day_bytes(self.0.unsigned_abs())
     }
 
@@ -116,8 +113,7 @@ impl Moment {
     /// The minute of the moment's day, from 0 to 1,439.
     pub fn minute_of_day(self) -> u32
         requires { pos 0 ≤ℤ self.0 }
-        ensures value { result ≡ minute_of_day (unsigned_abs self.0) }
-        ensures bound { result < minutes_per_day }
+        ensures { result ≡ minute_of_day (unsigned_abs self.0) }
     {
         (self.0 % MINUTES_PER_DAY as i64) as u32
     }

@@ -4,8 +4,8 @@ use Rattle.jiff_core.proofs.SignedLemmas.{signed_arith}
 use Rattle.lean_fixed.proofs.CalendarWalk.{weekday-monday}
 use Rattle.lean_fixed.proofs.time.Day.weekday.Goals as goal
 
-pub returns-clause-value : goal.returns-clause-value
-returns-clause-value c =
+pub returns : goal.returns
+returns c =
     let offset = c.to_sunday_zero_offset in
     let small : FitsSigned w8 offset.result = omega (arith, signed_arith, offset.ensures.bound) in
     let fits : FitsSigned w32 c.args.self.0 = search rules in

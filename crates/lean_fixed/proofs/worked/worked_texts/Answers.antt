@@ -2,7 +2,7 @@ use Rattle.std.proofs.Common.{refl}
 use Rattle.std.specs.Fmt.{digits}
 use Rattle.lean_fixed.specs.Calendar.{civil_of, carried_through}
 use Rattle.lean_fixed.specs.Printed.{units_text, money_text, day_text, moment_text}
-use Rattle.lean_fixed.proofs.tests.worked_texts.Goals as goal
+use Rattle.lean_fixed.proofs.worked.worked_texts.Goals as goal
 
 pub returns-clause-first : goal.returns-clause-first
 unfolding day_text civil_of carried_through

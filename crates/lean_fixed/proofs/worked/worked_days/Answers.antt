@@ -1,10 +1,10 @@
 use Rattle.std.proofs.Common.{refl}
 use Rattle.jiff_core.specs.Calendar.{days_from_civil, day_count, days_of_years, days_of_months}
-use Rattle.lean_fixed.proofs.tests.worked_days.Goals as goal
+use Rattle.lean_fixed.proofs.worked.worked_days.Goals as goal
 
-pub returns-clause-paper : goal.returns-clause-paper
+pub returns-clause-monday : goal.returns-clause-monday
 unfolding days_from_civil day_count days_of_years days_of_months
-returns-clause-paper c = refl
+returns-clause-monday c = refl
 
 pub returns-clause-last : goal.returns-clause-last
 unfolding days_from_civil day_count days_of_years days_of_months
