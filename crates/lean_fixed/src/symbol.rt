@@ -59,7 +59,7 @@ impl Symbol {
 
     /// The bytes of the name.
     pub fn bytes(&self) -> &[u8]
-        ensures { result.now ≡ self.now }
+        ensures value { result.now ≡ self.now }
     {
         &self.padded[..self.len as usize]
     }

@@ -54,7 +54,7 @@ impl Day {
     /// The day of the week: 0 for Sunday to 6 for Saturday.
     pub fn weekday(self) -> u8
         requires { IsDay self.0 }
-        ensures { result ≡ weekday (unsigned_abs self.0) }
+        ensures value { result ≡ weekday (unsigned_abs self.0) }
     {
         date_at(self.0.unsigned_abs())
             .weekday()
@@ -65,7 +65,7 @@ impl Day {
     /// The eight digits of the day, `yyyyMMdd`.
     pub fn digits(self) -> [u8; 8]
         requires { IsDay self.0 }
-        ensures { result ≡ day_text (unsigned_abs self.0) }
+        ensures value { result ≡ day_text (unsigned_abs self.0) }
     {
         day_bytes(self.0.unsigned_abs())
     }

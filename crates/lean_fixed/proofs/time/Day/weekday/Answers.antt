@@ -11,5 +11,6 @@ returns c =
     let fits : FitsSigned w32 c.args.self.0 = search rules in
     let day = rw (to_z-of_z fits) at c.unsigned_abs.ensures.value in
     let number = rw day at c.date_at.ensures.number in
-    rw (to_z-of_z small, offset.ensures.value) at c.unsigned_abs-2.ensures.value
-    ∙ weekday-monday _ _ _ number c.weekday.ensures
+    record {
+      value = rw (to_z-of_z small, offset.ensures.value) at c.unsigned_abs-2.ensures.value ∙ weekday-monday _ _ _ number c.weekday.ensures;
+    }
