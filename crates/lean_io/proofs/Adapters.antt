@@ -42,7 +42,14 @@ module _ {T E : Type 0} where
   hand_stays r before now is = on_ok_weaker r (λ (s : SameFile before now). s.is_open ∙ is)
 
 module _ {E : Type 0} where
-  pub hand_new : (r : Result DirHandState E) → IfOk r (λ h. h ≡ new_hand)
-      → IfOk r (λ h. (no_files ≡ no_files) × (h.faults ≡ 0) × (h.is_open ≡ false))
-  hand_new r = IfOk-weaker r (λ h. h ≡ new_hand) (λ h. (no_files ≡ no_files) × (h.faults ≡ 0) × (h.is_open ≡ false))
-      (λ h e. (refl, ap (λ (s : DirHandState). s.faults) e, ap (λ (s : DirHandState). s.is_open) e))
+  pub hand_untold : (r : Result DirHandState E) → IfOk r (λ h. no_files ≡ no_files)
+  hand_untold (Ok _) = refl
+  hand_untold (Err _) = tt
+
+  pub hand_new : (r : Result DirHandState E) → IfOk r (λ h. h ≡ new_hand) → IfOk r (λ h. (h.faults ≡ 0) × (h.is_open ≡ false))
+  hand_new r = IfOk-weaker r (λ h. h ≡ new_hand) (λ h. (h.faults ≡ 0) × (h.is_open ≡ false))
+      (λ h e. (ap (λ (s : DirHandState). s.faults) e, ap (λ (s : DirHandState). s.is_open) e))
+
+  pub hand_unchanged : (r : Result DirHandState E) (before now : ℕ) → now ≡ before → OnErr r (now ≡ before)
+  hand_unchanged (Ok _) before now e = tt
+  hand_unchanged (Err _) before now e = e

@@ -1,4 +1,5 @@
-use Rattle.std.specs.Prelude.{◌≡◌, ℕ, Bool, false, List, [], Option, Some, None}
+-- The state of a hand of a directory, and how it is changed by what the system answers.
+use Rattle.std.specs.Prelude.{◌≡◌, ℕ, Bool, false, List, [], Option, Some, None, Result, Ok, Err}
 use Rattle.std.specs.Io.KnownBytes.{prepend_known}
 use Rattle.lean_io.specs.Counts.{raised}
 
@@ -14,6 +15,10 @@ pub record DirHandState : Type 0 where
 abbrev pub new_hand : DirHandState
 new_hand = record { is_open = false; ahead = []; unread = None; faults = 0 }
 
+-- a hand after an opening that found a file or none, with what the file has, and with nothing read ahead
+abbrev pub opened : DirHandState → Bool → Option (List ℕ) → DirHandState
+opened h found unread = record { is_open = found; ahead = []; unread = unread; faults = h.faults }
+
 -- a hand after a call that failed
 abbrev pub failed : DirHandState → DirHandState
 failed h = record { is_open = false; ahead = []; unread = None; faults = raised h.faults 1 }
@@ -22,6 +27,11 @@ failed h = record { is_open = false; ahead = []; unread = None; faults = raised 
 abbrev pub unread_of : {F : Type 0} → (F → Option (List ℕ)) → List ℕ → Option F → Option (List ℕ)
 unread_of remaining ahead None = None
 unread_of remaining ahead (Some file) = prepend_known ahead (remaining file)
+
+-- what the file has that the system opened, if it opened one
+abbrev pub content_of : {F E : Type 0} → (F → Option (List ℕ)) → Result F E → Option (List ℕ)
+content_of remaining (Ok file) = prepend_known [] (remaining file)
+content_of remaining (Err e) = None
 
 -- a hand of the same file, with the same faults counted
 pub record SameFile (old new : DirHandState) : Type 0 where

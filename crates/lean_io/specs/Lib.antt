@@ -5,3 +5,4 @@ pub mod Counts
 pub mod MemSink
 pub mod MemFolder
 pub mod DirHand
+pub mod StdSink

@@ -1,5 +1,5 @@
-ghost use Rattle.std.specs.Prelude.{◌≡◌, ◌<◌, ◌++◌, ◌↔◌, [], length, min, take, drop, IfOk, OnOk, OnErr, IsTrue, vec_len};
-ghost use Rattle.std.specs.Io.KnownBytes.{Keeps, IsAtEnd, prepend_known};
+ghost use Rattle.std.specs.Prelude.{◌≡◌, ◌<◌, ◌≤◌, ◌++◌, [], length, min, take, drop, IfOk, OnOk, vec_len};
+ghost use Rattle.std.specs.Io.KnownBytes.{Keeps, Consumes, IsAtEnd, prepend_known};
 
 use lean_fixed::NoMemory;
 use std::alloc::Global;
@@ -7,10 +7,11 @@ use std::io;
 use std::io::Read;
 use std::marker::Model;
 
-/// How many bytes are read ahead, so that small reads need no call of the system each.
-const ROOM: usize = 16384;
+// How many bytes are asked of a file at a time: a day's minute rows take some 20,000.
+pub const PIECE: usize = 32_768;
 
-/// Bytes of a file that were read ahead, in a buffer that is made once. Contracts see it as the list of these bytes.
+// Bytes of a file that were read ahead, in a buffer that is made once, so that small reads need no
+// call of the system each. Contracts see it as the list of these bytes.
 #[derive(Drop)]
 pub struct Ahead {
     buffer: Vec<u8>,
@@ -29,10 +30,11 @@ impl Model for Ahead {
 }
 
 impl Ahead {
+    // Nothing is read ahead yet. `NoMemory`: there is no memory for the buffer.
     pub fn new(alloc: Global) -> Result<Ahead, NoMemory>
         ensures { IfOk result (λ a. a ≡ []) }
     {
-        let buffer = zeros(alloc, ROOM)?;
+        let buffer = zeros(alloc, PIECE)?;
         Ok(Ahead {
             buffer,
             from: 0,
@@ -40,17 +42,7 @@ impl Ahead {
         })
     }
 
-    pub fn is_empty(&self) -> bool
-        ensures { IsTrue result ↔ (self.now ≡ []) }
-    {
-        self.from == self.to
-    }
-
-    /// How many bytes the buffer has room for.
-    pub fn room(&self) -> usize {
-        self.buffer.len()
-    }
-
+    // Lets go what was read ahead.
     pub fn clear(&mut self)
         ensures { self.new ≡ [] }
     {
@@ -58,21 +50,26 @@ impl Ahead {
         self.to = 0;
     }
 
-    /// Moves bytes from the front to `into`, as many as there are and have room.
-    pub fn take(&mut self, into: &mut [u8]) -> usize
-        ensures amount { result ≡ min (length into.new) (length self.old) }
-        ensures moved { into.new ≡ take result self.old ++ drop result into.old }
-        ensures left { self.new ≡ drop result self.old }
+    // Moves the next bytes of a file to the front of `into`: those that were read ahead, and where
+    // there are none such that the file gives now. A piece as long as the buffer is read past it.
+    pub fn read<F: Read>(&mut self, file: &mut F, into: &mut [u8]) -> io::Result<usize>
+        ensures within { IfOk result (λ n. n ≤ length into.new) }
+        ensures read { IfOk result (λ n. Consumes (prepend_known self.old (F.remaining file.old))
+            (prepend_known self.new (F.remaining file.new)) (take n into.new)) }
+        ensures end { IfOk result (λ n. n ≡ 0 → 0 < length into.new
+            → IsAtEnd (prepend_known self.new (F.remaining file.new))) }
     {
-        let n = into.len().min(self.to - self.from);
-        into[..n].copy_from_slice(&self.buffer[self.from..self.from + n]);
-        self.from += n;
-        n
+        if self.from == self.to && into.len() >= self.buffer.len() {
+            return file.read(into);
+        }
+        self.refill(file)?;
+        Ok(self.take(into))
     }
 
-    /// Reads bytes of a file where there are none: at least one but at the file's end.
-    pub fn refill<F: Read>(&mut self, file: &mut F) -> io::Result<()>
-        ensures kept { OnOk result (Keeps (prepend_known self.old (F.remaining file.old)) (prepend_known self.new (F.remaining file.new))) }
+    // Reads bytes of a file where there are none: at least one but at the file's end.
+    fn refill<F: Read>(&mut self, file: &mut F) -> io::Result<()>
+        ensures kept { OnOk result (Keeps (prepend_known self.old (F.remaining file.old))
+            (prepend_known self.new (F.remaining file.new))) }
         ensures end { OnOk result (self.new ≡ [] → IsAtEnd (F.remaining file.new)) }
     {
         if self.from < self.to {
@@ -83,9 +80,21 @@ impl Ahead {
         self.to = file.read(self.buffer.as_mut_slice())?;
         Ok(())
     }
+
+    // Moves bytes from the front to `into`, as many as there are and have room.
+    fn take(&mut self, into: &mut [u8]) -> usize
+        ensures amount { result ≡ min (length into.new) (length self.old) }
+        ensures moved { into.new ≡ take result self.old ++ drop result into.old }
+        ensures left { self.new ≡ drop result self.old }
+    {
+        let n = into.len().min(self.to - self.from);
+        into[..n].copy_from_slice(&self.buffer[self.from..self.from + n]);
+        self.from += n;
+        n
+    }
 }
 
-/// So many zeros.
+// So many zeros.
 fn zeros(alloc: Global, count: usize) -> Result<Vec<u8>, NoMemory>
     ensures { IfOk result (λ v. vec_len v ≡ count) }
 {

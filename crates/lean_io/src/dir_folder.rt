@@ -1,20 +1,19 @@
-ghost use Rattle.std.specs.Prelude.{◌≡◌};
-
 use crate::ahead::Ahead;
+use crate::counts::Count;
 use crate::outside::{Failed, Folder, Hand};
 use lean_fixed::NoMemory;
 use std::alloc::Global;
-use std::fs;
-use std::io::{ErrorKind, Read};
+use std::io::ErrorKind;
 use std::marker::Model;
 use std::rt::Files;
+use std::{fs, io};
 
-/// The files of the current directory. It tells nothing of their content, and counts the faults of the hands that were
-/// taken back. Contracts see it as that count.
+/// The files of the current directory. It tells nothing of their content, and counts the faults of the
+/// hands that were taken back. Contracts see it as that count.
 #[derive(Drop)]
 pub struct DirFolder<R> {
     rt: R,
-    faults: u64,
+    faults: Count,
 }
 
 impl<R> Model for DirFolder<R> {
@@ -26,11 +25,16 @@ impl<R> Model for DirFolder<R> {
 }
 
 impl<R: Files + Copy + Send + Drop + 'static> DirFolder<R> {
+    ghost use Rattle.std.specs.Prelude.{◌≡◌};
+
     /// The files whose paths are taken from the current directory of a runtime, with no fault counted.
     pub fn new(rt: R) -> DirFolder<R>
         ensures { result ≡ 0 }
     {
-        DirFolder { rt, faults: 0 }
+        DirFolder {
+            rt,
+            faults: Count::new(),
+        }
     }
 }
 
@@ -57,7 +61,7 @@ where
             rt: self.rt,
             file: None,
             ahead,
-            faults: 0,
+            faults: Count::new(),
         })
     }
 
@@ -65,7 +69,7 @@ where
         ensures raised { self.new ≡ raised self.old hand.faults }
         ensures grows { self.old ≤ self.new }
     {
-        self.faults = self.faults.saturating_add(hand.faults);
+        self.faults.add(&hand.faults);
     }
 }
 
@@ -75,7 +79,7 @@ pub struct DirHand<R: Files> {
     rt: R,
     file: Option<R::File>,
     ahead: Ahead,
-    faults: u64,
+    faults: Count,
 }
 
 impl<R: Files> Model for DirHand<R> {
@@ -88,17 +92,43 @@ impl<R: Files> Model for DirHand<R> {
 }
 
 impl<R: Files> DirHand<R> {
-    ghost use Rattle.std.specs.Prelude.{◌≡◌, ◌≤◌};
-    ghost use Rattle.lean_io.specs.DirHand.{failed};
+    ghost use Rattle.std.specs.Prelude.{◌≡◌, ◌≤◌, ◌↔◌, Ok, true, false, IfOk, OnErr, IsOk, IsErrAnd};
+    ghost use Rattle.std.specs.IoError.{error_kind};
+    ghost use Rattle.lean_io.specs.DirHand.{opened, failed, content_of};
 
-    /// Counts a fault, and lets the open file go.
+    // Takes the system's answer to an opening: its file, or none where the error is "not found". Any
+    // other error is a fault. Nothing of the file before stays read ahead.
+    fn settle(&mut self, answer: io::Result<R::File>) -> Result<bool, Failed>
+        ensures found { (result ≡ Ok true) ↔ IsOk answer }
+        ensures missing { (result ≡ Ok false)
+            ↔ IsErrAnd answer (λ e. error_kind e ≡ ErrorKind.NotFound) }
+        ensures opened { IfOk result (λ found. self.new
+            ≡ opened self.old found (content_of R.File.remaining answer)) }
+        ensures failed { OnErr result (self.new ≡ failed self.old) }
+        ensures grows { self.old.faults ≤ self.new.faults }
+    {
+        self.ahead.clear();
+        match answer {
+            Ok(file) => {
+                self.file = Some(file);
+                Ok(true)
+            }
+            Err(e) if e.kind() == ErrorKind::NotFound => {
+                self.file = None;
+                Ok(false)
+            }
+            Err(_) => Err(self.fail()),
+        }
+    }
+
+    // Counts a fault, and lets the open file go.
     fn fail(&mut self) -> Failed
         ensures failed { self.new ≡ failed self.old }
         ensures grows { self.old.faults ≤ self.new.faults }
     {
         self.file = None;
         self.ahead.clear();
-        self.faults = self.faults.saturating_add(1);
+        self.faults.rise();
         Failed
     }
 }
@@ -119,7 +149,6 @@ where
 
     ghost faults = { λ h. h.faults };
 
-    // A path without a file is no fault; any other error of the system is one. No byte of the file before is kept.
     fn open_file(&mut self, path: &str) -> Result<bool, Failed>
         ensures opened { IfOk result (λ found. self.new.is_open ≡ found) }
         ensures fresh { OnOk result (self.new.ahead ≡ []) }
@@ -127,24 +156,11 @@ where
         ensures failed { OnErr result (self.new ≡ failed self.old) }
         ensures grows { self.old.faults ≤ self.new.faults }
     {
-        self.ahead.clear();
-        match fs::open(&self.rt, path) {
-            Ok(file) => {
-                self.file = Some(file);
-                Ok(true)
-            }
-            Err(e) => {
-                if e.kind() == ErrorKind::NotFound {
-                    self.file = None;
-                    return Ok(false);
-                }
-                Err(self.fail())
-            }
-        }
+        let answer = fs::open(&self.rt, path);
+        self.settle(answer)
     }
 
-    // The bytes are those that the file gives, in its order, and none is lost or given twice. A piece as long as the
-    // buffer is read past it.
+    // The bytes are those that the file gives, in its order, and none is lost or given twice.
     fn read(&mut self, into: &mut [u8]) -> Result<usize, Failed>
         requires { self.old.is_open ≡ true }
         ensures within { IfOk result (λ n. n ≤ length into.new) }
@@ -157,14 +173,8 @@ where
         let Some(file) = self.file.as_mut() else {
             unreachable!()
         };
-        if self.ahead.is_empty() && into.len() >= self.ahead.room() {
-            return match file.read(into) {
-                Ok(n) => Ok(n),
-                Err(_) => Err(self.fail()),
-            };
-        }
-        match self.ahead.refill(file) {
-            Ok(()) => Ok(self.ahead.take(into)),
+        match self.ahead.read(file, into) {
+            Ok(n) => Ok(n),
             Err(_) => Err(self.fail()),
         }
     }

@@ -1,6 +1,7 @@
 ghost use Rattle.std.specs.Prelude.{◌≡◌, ◌<◌, ◌==◌, ◌&&◌, Some, None, length, IfOk, IfSome, IfNone, string_bytes, bytes_eq};
 ghost use Rattle.lean_io.specs.MemFolder.{map_files, entry_files, is_listed, path_at, bytes_at};
 
+use crate::counts::Count;
 use crate::outside::{Failed, Folder, Hand};
 use lean_fixed::NoMemory;
 use std::alloc::Global;
@@ -19,7 +20,7 @@ struct Store {
 #[derive(Drop)]
 pub struct MemFolder {
     store: Arc<Store>,
-    faults: u64,
+    faults: Count,
 }
 
 impl Model for MemFolder {
@@ -45,7 +46,10 @@ impl MemFolder {
     {
         let entries: Vec<(String, Vec<u8>)> = files.into_iter().collect(alloc)?;
         let store = Arc::new(alloc, Store { entries, fails })?;
-        Ok(MemFolder { store, faults: 0 })
+        Ok(MemFolder {
+            store,
+            faults: Count::new(),
+        })
     }
 }
 
@@ -55,8 +59,8 @@ pub struct MemHand {
     store: Arc<Store>,
     place: Option<usize>,
     offset: usize,
-    reads: u64,
-    faults: u64,
+    reads: Count,
+    faults: Count,
 }
 
 impl Model for MemHand {
@@ -81,17 +85,18 @@ impl Model for MemHand {
 }
 
 impl MemHand {
-    ghost use Rattle.std.specs.Prelude.{◌≡◌};
+    ghost use Rattle.std.specs.Prelude.{◌≡◌, ◌≤◌};
     ghost use Rattle.lean_io.specs.MemFolder.{failed};
 
-    /// Counts a fault, and lets the open file go.
+    // Counts a fault, and lets the open file go.
     fn fail(&mut self) -> Failed
-        ensures { self.new ≡ failed self.old }
+        ensures failed { self.new ≡ failed self.old }
+        ensures grows { self.old.faults ≤ self.new.faults }
     {
         self.place = None;
         self.offset = 0;
-        self.reads = 0;
-        self.faults = self.faults.saturating_add(1);
+        self.reads = Count::new();
+        self.faults.rise();
         Failed
     }
 }
@@ -116,8 +121,8 @@ impl Folder for MemFolder {
             store,
             place: None,
             offset: 0,
-            reads: 0,
-            faults: 0,
+            reads: Count::new(),
+            faults: Count::new(),
         })
     }
 
@@ -125,7 +130,7 @@ impl Folder for MemFolder {
         ensures raised { self.new ≡ record self.old { faults = raised self.old.faults hand.faults } }
         ensures grows { self.old.faults ≤ self.new.faults }
     {
-        self.faults = self.faults.saturating_add(hand.faults);
+        self.faults.add(&hand.faults);
     }
 }
 
@@ -153,7 +158,7 @@ impl Hand for MemHand {
         }
         self.place = find(&self.store.entries, path);
         self.offset = 0;
-        self.reads = 0;
+        self.reads = Count::new();
         Ok(self.place.is_some())
     }
 
@@ -169,9 +174,9 @@ impl Hand for MemHand {
         let Some(place) = self.place else {
             unreachable!()
         };
-        self.reads = self.reads.saturating_add(1);
+        self.reads.rise();
         let (path, bytes) = entry_at(&self.store.entries, place);
-        if is_failing(&self.store.fails, path, self.reads) {
+        if is_failing(&self.store.fails, path, self.reads.number()) {
             return Err(self.fail());
         }
         let rest = &bytes[self.offset..];

@@ -1,5 +1,6 @@
 ghost use Rattle.std.specs.Prelude.{◌≡◌, ◌<◌, [], IfOk};
 
+use crate::counts::Count;
 use crate::outside::{Failed, Sink};
 use lean_fixed::NoMemory;
 use std::alloc::Global;
@@ -12,8 +13,8 @@ pub struct MemSink {
     most: usize,
     room: usize,
     fails: Vec<u64>,
-    writes: u64,
-    faults: u64,
+    writes: Count,
+    faults: Count,
 }
 
 impl Model for MemSink {
@@ -45,8 +46,8 @@ impl MemSink {
             most,
             room,
             fails,
-            writes: 0,
-            faults: 0,
+            writes: Count::new(),
+            faults: Count::new(),
         })
     }
 
@@ -66,6 +67,8 @@ impl Sink for MemSink {
 
     ghost faults = { λ s. s.faults };
 
+    ghost writes = { λ s. s.writes };
+
     /// Writes are numbered from 1, those of an empty piece too, which never fail.
     fn write(&mut self, bytes: &[u8]) -> Result<usize, Failed>
         ensures fails { IsErr result ↔ ((0 < length bytes.now) × FailsNext self.old) }
@@ -75,9 +78,9 @@ impl Sink for MemSink {
         ensures failed { OnErr result (self.new ≡ failed self.old) }
         ensures grows { self.old.faults ≤ self.new.faults }
     {
-        self.writes = self.writes.saturating_add(1);
-        if !bytes.is_empty() && (self.room == 0 || self.fails.contains(&self.writes)) {
-            self.faults = self.faults.saturating_add(1);
+        self.writes.rise();
+        if !bytes.is_empty() && (self.room == 0 || self.fails.contains(&self.writes.number())) {
+            self.faults.rise();
             return Err(Failed);
         }
         let n = bytes.len().min(self.most).min(self.room);

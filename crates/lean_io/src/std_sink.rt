@@ -1,30 +1,43 @@
-ghost use Rattle.std.specs.Prelude.{◌≡◌};
+ghost use Rattle.std.specs.Prelude.{◌≡◌, ◌<◌, ◌≤◌, ◌↔◌, Ok, length, take, IfOk, IsErr};
+ghost use Rattle.std.specs.Io.KnownBytes.{Appends};
+ghost use Rattle.lean_io.specs.StdSink.{IsFault};
 
+use crate::counts::Count;
 use crate::outside::{Failed, Sink};
+use std::io;
+use std::io::Write;
 use std::marker::Model;
 
-/// Standard output. It tells nothing of what was taken, and counts each write that failed. Contracts see it as that
-/// count.
+/// Standard output. It tells nothing of what was taken, and counts each write and each write that
+/// failed. Contracts see it as these two counts.
 #[derive(Drop)]
 pub struct StdSink<R> {
     rt: R,
-    faults: u64,
+    writes: Count,
+    faults: Count,
 }
 
 impl<R> Model for StdSink<R> {
-    ghost use Rattle.std.specs.Prelude.{ℕ};
+    ghost use Rattle.lean_io.specs.StdSink.{OutputState};
 
-    ghost Value = { ℕ };
+    ghost Value = { OutputState };
 
-    ghost view = { λ s. s.faults };
+    ghost view = { λ s. record { writes = s.writes; faults = s.faults } };
 }
 
 impl<R: Print + Copy + Send + Drop + 'static> StdSink<R> {
-    /// The standard output of a runtime, with no fault counted.
+    ghost use Rattle.std.specs.Prelude.{◌≡◌};
+    ghost use Rattle.lean_io.specs.StdSink.{no_writes};
+
+    /// The standard output of a runtime, with nothing written and no fault counted.
     pub fn new(rt: R) -> StdSink<R>
-        ensures { result ≡ 0 }
+        ensures { result ≡ no_writes }
     {
-        StdSink { rt, faults: 0 }
+        StdSink {
+            rt,
+            writes: Count::new(),
+            faults: Count::new(),
+        }
     }
 }
 
@@ -34,22 +47,46 @@ impl<R: Print + Copy + Send + Drop + 'static> Sink for StdSink<R> {
 
     ghost told = { λ _. None };
 
-    ghost faults = { λ s. s };
+    ghost faults = { λ s. s.faults };
 
-    // A write of the system that takes nothing of a piece would be tried again for ever, and counts as a fault.
+    ghost writes = { λ s. s.writes };
+
     fn write(&mut self, bytes: &[u8]) -> Result<usize, Failed>
         ensures took { IfOk result (λ n. n ≤ length bytes.now) }
         ensures some { IfOk result (λ n. 0 < length bytes.now → 0 < n) }
-        ensures ok { OnOk result (self.new ≡ self.old) }
-        ensures failed { OnErr result (self.new ≡ raised self.old 1) }
-        ensures grows { self.old ≤ self.new }
+        ensures counted { self.new.writes ≡ raised self.old.writes 1 }
+        ensures same { OnOk result (self.new.faults ≡ self.old.faults) }
+        ensures failed { OnErr result (self.new.faults ≡ raised self.old.faults 1) }
+        ensures grows { self.old.faults ≤ self.new.faults }
     {
-        match self.rt.write_some(bytes) {
-            Ok(n) if n > 0 || bytes.is_empty() => Ok(n),
-            _ => {
-                self.faults = self.faults.saturating_add(1);
-                Err(Failed)
-            }
+        self.writes.rise();
+        let answer = write_once(&mut io::writer(&self.rt), bytes);
+        if answer.is_err() {
+            self.faults.rise();
         }
+        answer
+    }
+}
+
+// Gives a piece to a writer in one write. What the writer took of it is told as it is.
+fn write_once<W: Write>(out: &mut W, piece: &[u8]) -> Result<usize, Failed>
+    ensures within { IfOk result (λ n. n ≤ length piece.now) }
+    ensures some { IfOk result (λ n. 0 < length piece.now → 0 < n) }
+    ensures took { IfOk result (λ n. Appends (W.contents out.old) (W.contents out.new)
+        (take n piece.now)) }
+{
+    let answer = out.write(piece);
+    taken(piece.len(), answer)
+}
+
+// How much of a piece of this length was taken, by the system's answer to its write. Where the system
+// took nothing of a piece that is not empty, the write would be tried again for ever, and is a fault.
+fn taken(length: usize, answer: io::Result<usize>) -> Result<usize, Failed>
+    ensures failed { IsErr result ↔ IsFault length answer }
+    ensures took { IfOk result (λ n. answer ≡ Ok n) }
+{
+    match answer {
+        Ok(n) if n > 0 || length == 0 => Ok(n),
+        _ => Err(Failed),
     }
 }

@@ -1,13 +1,11 @@
-ghost use Rattle.std.specs.Prelude.{◌≡◌, ℕ, ◌<◌, ◌≤◌, ◌++◌, true, Some, length, take, IfOk, OnOk, OnErr, option_map};
+ghost use Rattle.std.specs.Prelude.{◌≡◌, ℕ, ◌+◌, ◌<◌, ◌≤◌, ◌++◌, true, Some, length, take, IfOk, OnOk, OnErr, option_map};
 ghost use Rattle.lean_io.specs.Told.{Files, Rose};
 ghost use Rattle.lean_io.specs.Whole.{IsReading, HasCause};
 
+use crate::ahead::PIECE;
 use crate::outside::{Failed, Hand, Sink, WriteFault};
 use lean_fixed::NoMemory;
 use std::alloc::Global;
-
-/// How many bytes a whole file is read at a time.
-const CHUNK: usize = 16384;
 
 /// What the reading of a whole file gave.
 #[derive(Debug, Drop)]
@@ -22,11 +20,13 @@ pub enum Whole {
     Faulted,
 }
 
-/// Writes all the bytes, in as many writes as the sink needs. `WriteFault`: a write failed, and the sink took a front
-/// of the bytes.
+/// Writes all the bytes, in at most as many writes as there are bytes. `WriteFault`: a write failed, after which no other
+/// is made, and the sink took a front of the bytes.
 pub fn write_whole<S: Sink>(sink: &mut S, bytes: &[u8]) -> Result<(), WriteFault>
     ensures ok { OnOk result (S.told sink.new ≡ option_map (λ b. b ++ bytes.now) (S.told sink.old)) }
-    ensures err { OnErr result ((n : ℕ) × (n ≤ length bytes.now) × (S.told sink.new ≡ option_map (λ b. b ++ take n bytes.now) (S.told sink.old))) }
+    ensures err { OnErr result ((n : ℕ) × (n ≤ length bytes.now)
+        × (S.told sink.new ≡ option_map (λ b. b ++ take n bytes.now) (S.told sink.old))) }
+    ensures few { S.writes sink.new ≤ S.writes sink.old + length bytes.now }
     ensures grows { S.faults sink.old ≤ S.faults sink.new }
     ensures rose { OnErr result (Rose (S.faults sink.old) (S.faults sink.new)) }
 {
@@ -40,8 +40,8 @@ pub fn write_whole<S: Sink>(sink: &mut S, bytes: &[u8]) -> Result<(), WriteFault
     Ok(())
 }
 
-/// Reads the file at a path to its end, but not more than `most` bytes of it. `NoMemory`: there is no memory for its
-/// bytes.
+/// Reads the file at a path, and gives its bytes where they are at most `most`. Reading ends with the piece that goes
+/// beyond `most`. `NoMemory`: there is no memory for the bytes.
 pub fn read_whole<H: Hand>(
     alloc: Global,
     hand: &mut H,
@@ -55,7 +55,7 @@ pub fn read_whole<H: Hand>(
 {
     match hand.open_file(path) {
         Ok(true) => {
-            let mut chunk = [0; CHUNK];
+            let mut chunk = [0; PIECE];
             read_rest(alloc, hand, &mut chunk, most)
         }
         Ok(false) => Ok(Whole::Missing),

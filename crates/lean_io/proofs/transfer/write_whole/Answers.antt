@@ -6,5 +6,6 @@ pub loop-done-preserved : goal.loop-done-preserved
 loop-done-preserved g c = record {
   within = search rules;
   told = told_more _ _ _ _ _ _ c.loop-done.invariant.told c.in-Ok.ensures.told;
+  few = search rules;
   grows = search rules;
 }

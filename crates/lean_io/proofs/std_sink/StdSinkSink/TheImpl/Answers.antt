@@ -7,6 +7,7 @@ write-tells g c = record {
   some = c.ensures.some;
   told = bytes_untold c.result;
   same = bytes_untold_at_err c.result;
+  counted = c.ensures.counted;
   grows = c.ensures.grows;
-  rose = rose c.result c.args.self.now c.new.self.now c.ensures.failed;
+  rose = rose c.result c.args.self.now.faults c.new.self.now.faults c.ensures.failed;
 }
