@@ -1,3 +1,4 @@
+-- Counts that stand still at their last value.
 use Rattle.std.specs.Prelude.{ℕ, ◌+◌, ◌-◌, ◌^◌, min}
 
 -- a count after more was added to it, which stands still at its last value

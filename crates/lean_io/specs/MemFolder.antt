@@ -1,3 +1,4 @@
+-- The state of a folder in memory and of its hands, and what each call does to them.
 use Rattle.std.specs.Prelude.{ℕ, Bool, false, ◌==◌, ◌&&◌, List, [], drop, Option, Some, None, option_map, unwrap_or, slice_get, String, Vec, string_bytes, bytes_eq}
 use Rattle.std.specs.Global.{Global}
 use Rattle.std.specs.Option.{option_map_or}

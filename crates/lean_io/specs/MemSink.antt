@@ -1,8 +1,9 @@
-use Rattle.std.specs.Prelude.{◌≡◌, ℕ, ◌-◌, ◌⊎◌, List, ◌++◌, Contains, length, take, min}
+-- The state of a sink in memory, and what a write does to it.
+use Rattle.std.specs.Prelude.{◌≡◌, ℕ, ◌-◌, ◌⊎◌, List, [], ◌++◌, Contains, length, take, min}
 use Rattle.lean_io.specs.Counts.{raised}
 
--- a sink in memory: the bytes that it took, how many it takes at a time, how many more it has room for,
--- the numbers of the writes that fail, how many writes were made, and how many faults it met
+-- a sink in memory: the bytes that it took, how many it takes at a time, how many more it has room for, the numbers of
+-- the writes that fail, how many writes were made, those of empty pieces too, and how many faults it met
 pub record SinkState : Type 0 where
   pub bytes : List ℕ
   pub most : ℕ
@@ -10,6 +11,10 @@ pub record SinkState : Type 0 where
   pub fails : List ℕ
   pub writes : ℕ
   pub faults : ℕ
+
+-- a new sink
+abbrev pub new_sink : ℕ → ℕ → List ℕ → SinkState
+new_sink most room fails = record { bytes = []; most = most; room = room; fails = fails; writes = 0; faults = 0 }
 
 -- the next write of a piece that is not empty fails: its number is listed, or no room is left
 abbrev pub FailsNext : SinkState → Type 0

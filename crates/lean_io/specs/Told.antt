@@ -1,3 +1,4 @@
+-- What folders and hands tell, and what a call of theirs says of it.
 use Rattle.std.specs.Prelude.{◌≡◌, ℕ, ◌+◌, ◌-◌, ◌^◌, ◌≤◌, ◌↔◌, ◌⊎◌, Bool, List, [], ◌++◌, take, min, Option, Some, None, if◌then◌else◌}
 
 -- the files that a folder or a hand tells: at each path the bytes of its file, or nothing

@@ -8,8 +8,8 @@ use std::marker::Model;
 use std::rt::Files;
 use std::{fs, io};
 
-/// The files of the current directory. It tells nothing of their content, and counts the faults of the
-/// hands that were taken back. Contracts see it as that count.
+/// The files of the current directory. It tells nothing of their content, and counts the faults of
+/// the hands that were taken back. Contracts see it as that count.
 #[derive(Drop)]
 pub struct DirFolder<R> {
     rt: R,
@@ -27,7 +27,8 @@ impl<R> Model for DirFolder<R> {
 impl<R: Files + Copy + Send + Drop + 'static> DirFolder<R> {
     ghost use Rattle.std.specs.Prelude.{◌≡◌};
 
-    /// The files whose paths are taken from the current directory of a runtime, with no fault counted.
+    /// The files whose paths are taken from the current directory of a runtime, with no fault
+    /// counted.
     pub fn new(rt: R) -> DirFolder<R>
         ensures { result ≡ 0 }
     {
@@ -88,7 +89,12 @@ impl<R: Files> Model for DirHand<R> {
 
     ghost Value = { DirHandState };
 
-    ghost view = { λ h. record { is_open = is_some h.file; ahead = h.ahead; unread = unread_of R.File.remaining h.ahead h.file; faults = h.faults } };
+    ghost view = { λ h. record {
+      is_open = is_some h.file;
+      ahead = h.ahead;
+      unread = unread_of R.File.remaining h.ahead h.file;
+      faults = h.faults;
+    } };
 }
 
 impl<R: Files> DirHand<R> {
@@ -96,8 +102,8 @@ impl<R: Files> DirHand<R> {
     ghost use Rattle.std.specs.IoError.{error_kind};
     ghost use Rattle.lean_io.specs.DirHand.{opened, failed, content_of};
 
-    // Takes the system's answer to an opening: its file, or none where the error is "not found". Any
-    // other error is a fault. Nothing of the file before stays read ahead.
+    // Takes the system's answer to an opening: its file, or none where the error is "not found".
+    // Any other error is a fault. Nothing of the file before stays read ahead.
     fn settle(&mut self, answer: io::Result<R::File>) -> Result<bool, Failed>
         ensures found { (result ≡ Ok true) ↔ IsOk answer }
         ensures missing { (result ≡ Ok false)
@@ -165,7 +171,8 @@ where
         requires { self.old.is_open ≡ true }
         ensures within { IfOk result (λ n. n ≤ length into.new) }
         ensures same { OnOk result (SameFile self.old self.new) }
-        ensures read { IfOk result (λ n. Consumes self.old.unread self.new.unread (take n into.new)) }
+        ensures read { IfOk result (λ n.
+            Consumes self.old.unread self.new.unread (take n into.new)) }
         ensures end { IfOk result (λ n. n ≡ 0 → 0 < length into.new → IsAtEnd self.new.unread) }
         ensures failed { OnErr result (self.new ≡ failed self.old) }
         ensures grows { self.old.faults ≤ self.new.faults }

@@ -1,6 +1,6 @@
-//! The outside of a backtest: folders of files, the hands that read them, and the sinks that take what
-//! is printed. What an object tells never changes but by its calls, and a fault is answered only where
-//! its count of faults rose in the call, or stands at its last value, 2^64 - 1.
+//! The outside of a backtest: folders of files, the hands that read them, and the sinks that take
+//! what is printed. What an object tells never changes but by its calls, and a fault is answered
+//! only where its count of faults rose in the call, or stands at its last value, 2^64 - 1.
 #![tactic(auto)]
 
 mod ahead;

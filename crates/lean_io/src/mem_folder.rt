@@ -9,7 +9,7 @@ use std::collections::BTreeMap;
 use std::marker::Model;
 use std::sync::Arc;
 
-/// The files of a folder in memory, by rising path, and the calls that fail.
+// The files of a folder in memory, by rising path, and the calls that fail.
 #[derive(Drop)]
 struct Store {
     entries: Vec<(String, Vec<u8>)>,
@@ -29,19 +29,24 @@ impl Model for MemFolder {
 
     ghost Value = { FolderState };
 
-    ghost view = { λ m. record { entries = (arc_value m.store).entries.items; fails = (arc_value m.store).fails.items; faults = m.faults } };
+    ghost view = { λ m. record {
+      entries = (arc_value m.store).entries.items;
+      fails = (arc_value m.store).fails.items;
+      faults = m.faults;
+    } };
 }
 
 impl MemFolder {
-    /// A folder of the files of a map from path to bytes. A pair (path, k) makes call k of each opening of that path
-    /// fail, where the opening itself is call 0 and the reads after it count from 1; no other call fails. `NoMemory`:
-    /// there is no memory for the folder.
+    /// A folder of the files of a map from path to bytes. A pair (path, k) makes call k of each
+    /// opening of that path fail, where the opening itself is call 0 and the reads after it count
+    /// from 1; no other call fails. `NoMemory`: there is no memory for the folder.
     pub fn new(
         alloc: Global,
         files: BTreeMap<String, Vec<u8>>,
         fails: Vec<(String, u64)>,
     ) -> Result<MemFolder, NoMemory>
-        ensures made { IfOk result (λ m. m ≡ record { entries = files.entries; fails = fails.items; faults = 0 }) }
+        ensures made { IfOk result (λ m. m
+            ≡ record { entries = files.entries; fails = fails.items; faults = 0 }) }
         ensures told { IfOk result (λ m. entry_files m.entries ≡ map_files files) }
     {
         let entries: Vec<(String, Vec<u8>)> = files.into_iter().collect(alloc)?;
@@ -127,7 +132,8 @@ impl Folder for MemFolder {
     }
 
     fn take_back(&mut self, hand: MemHand)
-        ensures raised { self.new ≡ record self.old { faults = raised self.old.faults hand.faults } }
+        ensures raised { self.new
+            ≡ record self.old { faults = raised self.old.faults hand.faults } }
         ensures grows { self.old.faults ≤ self.new.faults }
     {
         self.faults.add(&hand.faults);
@@ -148,8 +154,10 @@ impl Hand for MemHand {
 
     fn open_file(&mut self, path: &str) -> Result<bool, Failed>
         ensures fails { IsErr result ↔ IsTrue (is_listed self.old.fails path.now 0) }
-        ensures found { IfOk result (λ found. found ≡ is_some (entry_files self.old.entries path.now)) }
-        ensures opened { OnOk result (self.new ≡ opened self.old path.now (entry_files self.old.entries path.now)) }
+        ensures found { IfOk result (λ found. found
+            ≡ is_some (entry_files self.old.entries path.now)) }
+        ensures opened { OnOk result (self.new
+            ≡ opened self.old path.now (entry_files self.old.entries path.now)) }
         ensures failed { OnErr result (self.new ≡ failed self.old) }
         ensures grows { self.old.faults ≤ self.new.faults }
     {
@@ -187,7 +195,7 @@ impl Hand for MemHand {
     }
 }
 
-/// The path and the bytes of the entry at a place.
+// The path and the bytes of the entry at a place.
 fn entry_at(entries: &[(String, Vec<u8>)], place: usize) -> (&str, &[u8])
     requires { place < length entries.now }
     ensures path { path_at entries.now place ≡ Some result.0.now }
@@ -197,7 +205,7 @@ fn entry_at(entries: &[(String, Vec<u8>)], place: usize) -> (&str, &[u8])
     (entry.0.as_str(), entry.1.as_slice())
 }
 
-/// The place of the entry of a path.
+// The place of the entry of a path.
 fn find(entries: &[(String, Vec<u8>)], path: &str) -> Option<usize>
     ensures within { IfSome result (λ i. i < length entries.now) }
     ensures path { IfSome result (λ i. path_at entries.now i ≡ Some path.now) }
@@ -212,14 +220,14 @@ fn find(entries: &[(String, Vec<u8>)], path: &str) -> Option<usize>
     None
 }
 
-/// Whether a call of the openings of a path is to fail.
+// Whether a call of the openings of a path is to fail.
 fn is_failing(fails: &[(String, u64)], path: &str, call: u64) -> bool
     ensures { result ≡ is_listed fails.now path.now call }
 {
     fails.iter().any(|pair| is_call(pair, path, call))
 }
 
-/// Whether a pair is of this path and this call.
+// Whether a pair is of this path and this call.
 fn is_call(pair: &(String, u64), path: &str, call: u64) -> bool
     ensures { result ≡ (bytes_eq (string_bytes pair.now.0) path.now && (pair.now.1 == call)) }
 {

@@ -1,12 +1,11 @@
-ghost use Rattle.std.specs.Prelude.{◌≡◌, ◌<◌, [], IfOk};
-
 use crate::counts::Count;
 use crate::outside::{Failed, Sink};
 use lean_fixed::NoMemory;
 use std::alloc::Global;
 use std::marker::Model;
 
-/// A sink in memory, for tests: it takes few bytes at a time, has room for so many, and fails at chosen writes.
+/// A sink in memory, for tests: it takes few bytes at a time, has room for so many, and fails at
+/// chosen writes.
 #[derive(Drop)]
 pub struct MemSink {
     bytes: Vec<u8>,
@@ -23,14 +22,26 @@ impl Model for MemSink {
 
     ghost Value = { SinkState };
 
-    ghost view = { λ s. record { bytes = s.bytes.items; most = s.most; room = s.room; fails = s.fails.items; writes = s.writes; faults = s.faults } };
+    ghost view = { λ s. record {
+      bytes = s.bytes.items;
+      most = s.most;
+      room = s.room;
+      fails = s.fails.items;
+      writes = s.writes;
+      faults = s.faults;
+    } };
 
     ghost invariant = { λ s. (0 < s.most) × (vec_len s.bytes + s.room ≤ vec_capacity s.bytes) };
 }
 
 impl MemSink {
-    /// A sink that takes at most `most` bytes at a time and `room` bytes in all. A write fails where its number,
-    /// counted from 1, is in `fails`. `NoMemory`: there is no memory for `room` bytes.
+    ghost use Rattle.std.specs.Prelude.{◌≡◌, ◌<◌, IfOk};
+    ghost use Rattle.lean_io.specs.MemSink.{new_sink};
+
+    /// A sink that takes at most `most` bytes at a time and `room` bytes in all. A write of a piece
+    /// that is not empty fails where its number is in `fails`, counted from 1 over all writes, or
+    /// where no room is left. A write of an empty piece never fails. `NoMemory`: there is no memory
+    /// for `room` bytes.
     pub fn new(
         alloc: Global,
         most: usize,
@@ -38,7 +49,7 @@ impl MemSink {
         fails: Vec<u64>,
     ) -> Result<MemSink, NoMemory>
         requires { 0 < most }
-        ensures { IfOk result (λ s. s ≡ record { bytes = []; most = most; room = room; fails = fails.items; writes = 0; faults = 0 }) }
+        ensures { IfOk result (λ s. s ≡ new_sink most room fails.items) }
     {
         let bytes = Vec::with_capacity(alloc, room)?;
         Ok(MemSink {
@@ -69,7 +80,6 @@ impl Sink for MemSink {
 
     ghost writes = { λ s. s.writes };
 
-    /// Writes are numbered from 1, those of an empty piece too, which never fail.
     fn write(&mut self, bytes: &[u8]) -> Result<usize, Failed>
         ensures fails { IsErr result ↔ ((0 < length bytes.now) × FailsNext self.old) }
         ensures amount { IfOk result (λ n. n ≡ amount self.old bytes.now) }

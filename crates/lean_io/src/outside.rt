@@ -23,14 +23,15 @@ pub trait Hand: Send + Drop {
     /// Whether a file is open.
     ghost is_open: { Self → Bool };
 
-    /// The bytes of the open file that are not read yet. It means something where the files are told.
+    /// The bytes of the open file that are not read yet. It means something where the files are
+    /// told.
     ghost rest: { Self → List ℕ };
 
     /// How many faults the hand has met.
     ghost faults: { Self → ℕ };
 
-    /// Opens the file at a path from its start, in place of the file that was open. False: there is no
-    /// such file, and then no file is open. `Failed`: a fault, and then no file is open.
+    /// Opens the file at a path from its start, in place of the file that was open. False: there is
+    /// no such file, and then no file is open. `Failed`: a fault, and then no file is open.
     fn open_file(&mut self, path: &str) -> Result<bool, Failed>
         ensures kept { files self.new ≡ files self.old }
         ensures grows { faults self.old ≤ faults self.new }
@@ -40,8 +41,8 @@ pub trait Hand: Send + Drop {
         ensures closed { OnErr result (is_open self.new ≡ false) }
         ensures rose { OnErr result (Rose (faults self.old) (faults self.new)) };
 
-    /// Moves bytes of the open file to the front of `into`, and gives their number, which is 0 at the
-    /// file's end or where `into` is empty. `Failed`: a fault, and then no file is open.
+    /// Moves bytes of the open file to the front of `into`, and gives their number, which is 0 at
+    /// the file's end or where `into` is empty. `Failed`: a fault, and then no file is open.
     fn read(&mut self, into: &mut [u8]) -> Result<usize, Failed>
         requires { is_open self.old ≡ true }
         ensures kept { files self.new ≡ files self.old }
@@ -73,8 +74,8 @@ pub trait Folder {
         ensures same { faults self.new ≡ faults self.old }
         ensures unchanged { OnErr result (self.new ≡ self.old) };
 
-    /// Takes a hand back, and adds the faults that it met to the folder's count, which stands still at
-    /// 2^64 - 1.
+    /// Takes a hand back, and adds the faults that it met to the folder's count, which stands still
+    /// at 2^64 - 1.
     fn take_back(&mut self, hand: Self::H)
         ensures kept { files self.new ≡ files self.old }
         ensures grows { faults self.old ≤ faults self.new }

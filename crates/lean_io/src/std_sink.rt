@@ -79,8 +79,9 @@ fn write_once<W: Write>(out: &mut W, piece: &[u8]) -> Result<usize, Failed>
     taken(piece.len(), answer)
 }
 
-// How much of a piece of this length was taken, by the system's answer to its write. Where the system
-// took nothing of a piece that is not empty, the write would be tried again for ever, and is a fault.
+// How much of a piece of this length was taken, by the system's answer to its write. Where the
+// system took nothing of a piece that is not empty, the write would be tried again for ever, and is
+// a fault.
 fn taken(length: usize, answer: io::Result<usize>) -> Result<usize, Failed>
     ensures failed { IsErr result ↔ IsFault length answer }
     ensures took { IfOk result (λ n. answer ≡ Ok n) }

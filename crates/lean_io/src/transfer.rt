@@ -20,10 +20,11 @@ pub enum Whole {
     Faulted,
 }
 
-/// Writes all the bytes, in at most as many writes as there are bytes. `WriteFault`: a write failed, after which no other
-/// is made, and the sink took a front of the bytes.
+/// Writes all the bytes, in at most as many writes as there are bytes. `WriteFault`: a write
+/// failed, and the sink took a front of the bytes.
 pub fn write_whole<S: Sink>(sink: &mut S, bytes: &[u8]) -> Result<(), WriteFault>
-    ensures ok { OnOk result (S.told sink.new ≡ option_map (λ b. b ++ bytes.now) (S.told sink.old)) }
+    ensures ok { OnOk result (S.told sink.new
+        ≡ option_map (λ b. b ++ bytes.now) (S.told sink.old)) }
     ensures err { OnErr result ((n : ℕ) × (n ≤ length bytes.now)
         × (S.told sink.new ≡ option_map (λ b. b ++ take n bytes.now) (S.told sink.old))) }
     ensures few { S.writes sink.new ≤ S.writes sink.old + length bytes.now }
@@ -40,15 +41,17 @@ pub fn write_whole<S: Sink>(sink: &mut S, bytes: &[u8]) -> Result<(), WriteFault
     Ok(())
 }
 
-/// Reads the file at a path, and gives its bytes where they are at most `most`. Reading ends with the piece that goes
-/// beyond `most`. `NoMemory`: there is no memory for the bytes.
+/// Reads the file at a path, and gives its bytes where it has at most `most`. Of a larger file it
+/// reads no further than the piece that goes past `most`. `NoMemory`: there is no memory for the
+/// bytes.
 pub fn read_whole<H: Hand>(
     alloc: Global,
     hand: &mut H,
     path: &str,
     most: usize,
 ) -> Result<Whole, NoMemory>
-    ensures told { IfOk result (λ whole. (f : Files) → H.files hand.old ≡ Some f → IsReading (f path.now) most whole) }
+    ensures told { IfOk result (λ whole. (f : Files) → H.files hand.old ≡ Some f
+        → IsReading (f path.now) most whole) }
     ensures cause { IfOk result (λ whole. HasCause (H.faults hand.old) (H.faults hand.new) whole) }
     ensures kept { H.files hand.new ≡ H.files hand.old }
     ensures grows { H.faults hand.old ≤ H.faults hand.new }
@@ -63,7 +66,7 @@ pub fn read_whole<H: Hand>(
     }
 }
 
-/// Reads the rest of the open file, piece by piece through `chunk`.
+// Reads the rest of the open file, piece by piece through `chunk`.
 fn read_rest<H: Hand>(
     alloc: Global,
     hand: &mut H,
@@ -72,7 +75,8 @@ fn read_rest<H: Hand>(
 ) -> Result<Whole, NoMemory>
     requires opened { H.is_open hand.old ≡ true }
     requires room { 0 < length chunk.old }
-    ensures told { IfOk result (λ whole. (f : Files) → H.files hand.old ≡ Some f → IsReading (Some (H.rest hand.old)) most whole) }
+    ensures told { IfOk result (λ whole. (f : Files) → H.files hand.old ≡ Some f
+        → IsReading (Some (H.rest hand.old)) most whole) }
     ensures cause { IfOk result (λ whole. HasCause (H.faults hand.old) (H.faults hand.new) whole) }
     ensures kept { H.files hand.new ≡ H.files hand.old }
     ensures grows { H.faults hand.old ≤ H.faults hand.new }
