@@ -1,5 +1,5 @@
 -- Bars of the grid against the hours of the day in which they start.
-use Rattle.std.proofs.Common.{ℕ, ◌+◌, ◌-◌, ◌*◌, ◌/◌, ◌%◌, ◌==◌, ◌<◌, ◌≤◌, ◌≡◌, true, false, nat_lt, true≢false, Option, Some, None, option_map, max, IfSome, inl, inr, refl, sym, subst, ◌∙◌, ap, arith}
+use Rattle.std.proofs.Common.{ℕ, ◌+◌, ◌-◌, ◌*◌, ◌/◌, ◌%◌, ◌==◌, ◌<◌, ◌≤◌, ◌≡◌, Bool, true, false, nat_lt, true≢false, Option, Some, None, option_map, max, IfSome, inl, inr, refl, sym, subst, ◌∙◌, ap, arith}
 use Rattle.std.specs.Option.{option_map_or}
 use Rattle.std.proofs.lemmas.Bool.{cases_lt, and_parts, and_from}
 use Rattle.std.proofs.lemmas.Bool.Decides.{nat_tests}
@@ -7,8 +7,8 @@ use Rattle.lean_fixed.specs.declared.resolution.Resolution.{Resolution}
 use Rattle.lean_fixed.specs.declared.resolution.Resolution.TheVariants.{Minute, Hour, Daily}
 use Rattle.exchange_hours.specs.declared.spans.Span.{Span}
 use Rattle.exchange_hours.specs.Entries.{Entries}
-use Rattle.exchange_hours.specs.Sessions.{span_on, interval_from, LiesInDay, LieInDays}
-use Rattle.exchange_hours.specs.Grid.{closing, close_of, IsClose, is_bar, meets, in_session, IsGridEnd, bar_start, HasOneBarAtEnd}
+use Rattle.exchange_hours.specs.Sessions.{span_on, session, interval_from, LiesInDay, LieInDays}
+use Rattle.exchange_hours.specs.Grid.{closing, close_of, IsClosing, closes_at, is_closing, is_bar, meets, in_session, IsGridEnd, bar_start, is_grid_bar, is_grid_end, HasOneBarAtEnd}
 use Rattle.exchange_hours.specs.Spans.{IsSpan, IsEnd, IsNextEnd}
 use Rattle.exchange_hours.specs.Next.{IsNextFrom}
 
@@ -59,10 +59,12 @@ end_of_bar hours resolution end b =
 
 in_session-at : (hours : Entries) (day : ℕ) (span : Span) (start end : ℕ) → start / 1440 ≡ day → span_on hours day ≡ Some span
     → 1440 * day + span.opens < end → start < 1440 * day + span.closes → in_session hours start end ≡ true
+unfolding session
 in_session-at hours day span start end is_day is_span after before = rw (is_day, is_span) (grind (arith, nat_tests))
 
 end_is_bar : (hours : Entries) (resolution : Resolution) (day : ℕ) (span : Span) (end : ℕ) → span_on hours day ≡ Some span → IsSpan span → IsEnd span resolution end
     → EndsBar hours resolution (1440 * day + end)
+unfolding session
 end_is_bar hours Minute day span end is_span ok is_end =
     (1440 * day + (end - 1), omega arith, in_session-at hours day span _ _ (omega arith) is_span (omega arith) (omega arith))
 end_is_bar hours Hour day span end is_span ok is_end =
@@ -87,7 +89,8 @@ span_closing : (found : Option Span) (midnight end : ℕ) → option_map closing
 span_closing None midnight end h = cc
 span_closing (Some span) midnight end h = (span, refl, cc)
 
-spans_at : (hours : Entries) (day : ℕ) (span : Span) → LieInDays hours → span_on hours day ≡ Some span → IsSpan span
+pub spans_at : (hours : Entries) (day : ℕ) (span : Span) → LieInDays hours → span_on hours day ≡ Some span → IsSpan span
+unfolding session
 spans_at hours day span every is =
     let Q : Option Span → Type 0 = λ o. IfSome (option_map (interval_from (1440 * day)) o) (LiesInDay day) in
     let lies : LiesInDay day (interval_from (1440 * day) span) = subst Q is (every day) in
@@ -98,6 +101,7 @@ on_day hours start day span is h = let P : ℕ → Type 0 = λ d. span_on hours 
 
 bar_is_end : (hours : Entries) (resolution : Resolution) (day end : ℕ) → LieInDays hours → EndsBar hours resolution end → 1440 * day < end → end ≤ 1440 * day + 1440
     → (span : Span) × (span_on hours day ≡ Some span) × IsEnd span resolution (end - 1440 * day)
+unfolding session
 bar_is_end hours Minute day end every g after until =
     let is_day : g.0 / 1440 ≡ day = omega arith in
     let met = span_met (span_on hours (g.0 / 1440)) (1440 * (g.0 / 1440)) g.0 end g.2 in
@@ -166,6 +170,7 @@ day_exists : (hours : Entries) (day : ℕ) (span : Span) → span_on hours day �
 day_exists hours day span is = elim (cases_lt 84005 day) [ inl late ↦ absurd (none_is_some (sym (late_day hours day late) ∙ is)) | inr early ↦ early ]
 
 bar_lies : (hours : Entries) (resolution : Resolution) (end : ℕ) → LieInDays hours → EndsBar hours resolution end → (0 < end) × (end ≤ 120968640)
+unfolding session
 bar_lies hours Minute end every g =
     let met = span_met (span_on hours (g.0 / 1440)) (1440 * (g.0 / 1440)) g.0 end g.2 in
     let exists = day_exists hours (g.0 / 1440) met.0 met.1 in
@@ -185,6 +190,7 @@ pub grid_lies : (hours : Entries) (resolution : Resolution) (end : ℕ) → LieI
 grid_lies hours resolution end every g = bar_lies hours resolution end every (bar_at_end hours resolution end g)
 
 starts : (hours : Entries) (resolution : Resolution) (start end : ℕ) → LieInDays hours → IsBar hours resolution start end → start ≡ bar_start resolution end
+unfolding session
 starts hours Minute start end every b = omega arith
 starts hours Hour start end every b = omega arith
 starts hours Daily start end every b =
@@ -198,15 +204,91 @@ has_one_bar hours resolution every start end h =
     starts hours resolution start end every (bar_told hours resolution start end parts.0)
 
 -- the daily bars in session end at the closings of the sessions
-pub daily_end_is_close : (hours : Entries) (t : ℕ) → IsGridEnd hours Daily t → IsClose hours t
+pub daily_end_is_close : (hours : Entries) (t : ℕ) → IsGridEnd hours Daily t → IsClosing hours t
 daily_end_is_close hours t g = let b = bar_at_end hours Daily t g in (b.0 / 1440, b.1.1)
 
 close_is_end : (hours : Entries) (day t : ℕ) → LieInDays hours → close_of hours day ≡ Some t → IsGridEnd hours Daily t
+unfolding session
 close_is_end hours day t every is =
     let closes = span_closing (span_on hours day) (1440 * day) t is in
     let lies = spans_at hours day closes.0 every closes.1 in
     let is_day : 1440 * day / 1440 ≡ day = omega arith in
     end_of_bar hours Daily t (1440 * day, (omega arith, rw is_day is), in_session-at hours day closes.0 _ _ is_day closes.1 (omega arith) (omega arith))
 
-pub close_is_daily_end : (hours : Entries) (t : ℕ) → LieInDays hours → IsClose hours t → IsGridEnd hours Daily t
+pub close_is_daily_end : (hours : Entries) (t : ℕ) → LieInDays hours → IsClosing hours t → IsGridEnd hours Daily t
 close_is_daily_end hours t every c = close_is_end hours c.0 t every c.1
+
+-- ---- the tests
+
+-- a bar of the grid that ends here is the one that the test looks at
+pub grid_tested : (hours : Entries) (resolution : Resolution) → LieInDays hours → (t : ℕ) → IsGridEnd hours resolution t → is_grid_end hours resolution t ≡ true
+unfolding is_grid_end
+grid_tested hours resolution every t g =
+    let P : ℕ → Type 0 = λ start. is_grid_bar hours resolution start t ≡ true in
+    subst P (has_one_bar hours resolution every g.0 t g.1) g.1
+
+pub grid_told : (hours : Entries) (resolution : Resolution) (t : ℕ) → is_grid_end hours resolution t ≡ true → IsGridEnd hours resolution t
+unfolding is_grid_end
+grid_told hours resolution t h = (bar_start resolution t, h)
+
+refuted : (b : Bool) {P : Type 0} → (b ≡ true → P) → ¬ P → b ≡ false
+refuted true told no_p = absurd (no_p (told refl))
+refuted false told no_p = refl
+
+pub grid_not_told : (hours : Entries) (resolution : Resolution) (t : ℕ) → ¬ IsGridEnd hours resolution t → is_grid_end hours resolution t ≡ false
+grid_not_told hours resolution t h = refuted (is_grid_end hours resolution t) (grid_told hours resolution t) h
+
+-- a closing lies in its day
+pub close_lies : (hours : Entries) → LieInDays hours → (day t : ℕ) → close_of hours day ≡ Some t → (1440 * day < t) × (t ≤ 1440 * day + 1440)
+unfolding session
+close_lies hours every day t is =
+    let closes = span_closing (span_on hours day) (1440 * day) t is in
+    let lies = spans_at hours day closes.0 every closes.1 in
+    (omega arith, omega arith)
+
+pub closings_rise : (hours : Entries) → LieInDays hours → (day later s t : ℕ) → day < later → close_of hours day ≡ Some s → close_of hours later ≡ Some t → s < t
+closings_rise hours every day later s t after is then =
+    let first = close_lies hours every day s is in
+    let second = close_lies hours every later t then in
+    omega arith
+
+pub close_told_by : (hours : Entries) (t : ℕ) → is_closing hours t ≡ true → IsClosing hours t
+unfolding is_closing
+close_told_by hours t h = ((t - 1) / 1440, close_told (close_of hours ((t - 1) / 1440)) t h)
+
+pub close_tested_by : (hours : Entries) → LieInDays hours → (t : ℕ) → IsClosing hours t → is_closing hours t ≡ true
+unfolding is_closing
+close_tested_by hours every t c =
+    let lies = close_lies hours every c.0 t c.1 in
+    let day : c.0 ≡ (t - 1) / 1440 = omega arith in
+    let P : ℕ → Type 0 = λ d. closes_at hours d t ≡ true in
+    subst P day (close_tested (close_of hours c.0) t c.1)
+
+pub close_not_told : (hours : Entries) (t : ℕ) → ¬ IsClosing hours t → is_closing hours t ≡ false
+close_not_told hours t h = refuted (is_closing hours t) (close_told_by hours t) h
+
+same_tests : (a b : Bool) → (a ≡ true → b ≡ true) → (b ≡ true → a ≡ true) → a ≡ b
+same_tests true b to from = sym (to refl)
+same_tests false true to from = from refl
+same_tests false false to from = refl
+
+pub close_daily : (hours : Entries) → LieInDays hours → (t : ℕ) → is_closing hours t ≡ is_grid_end hours Daily t
+close_daily hours every t =
+    same_tests (is_closing hours t) (is_grid_end hours Daily t)
+    (λ h. grid_tested hours Daily every t (close_is_daily_end hours t every (close_told_by hours t h)))
+    (λ h. close_tested_by hours every t (daily_end_is_close hours t (grid_told hours Daily t h)))
+
+pub grid_end_lies : (hours : Entries) (resolution : Resolution) → LieInDays hours → (t : ℕ) → is_grid_end hours resolution t ≡ true → (0 < t) × (t ≤ 120968640)
+grid_end_lies hours resolution every t h = grid_lies hours resolution t every (grid_told hours resolution t h)
+
+pub daily_in_session : (hours : Entries) → LieInDays hours → (start end : ℕ) → is_bar hours Daily start end ≡ true → in_session hours start end ≡ true
+unfolding session
+daily_in_session hours every start end h =
+    let b = bar_told hours Daily start end h in
+    let closes = span_closing (span_on hours (start / 1440)) (1440 * (start / 1440)) end b.1 in
+    let lies = spans_at hours (start / 1440) closes.0 every closes.1 in
+    in_session-at hours (start / 1440) closes.0 start end refl closes.1 (omega arith) (omega arith)
+
+pub no_late_session : (hours : Entries) (day : ℕ) → 84005 < day → session hours day ≡ None
+unfolding session
+no_late_session hours day late = ap (option_map (interval_from (1440 * day))) (late_day hours day late)

@@ -12,7 +12,7 @@ use Rattle.exchange_hours.specs.declared.fault.HoursFault.{HoursFault}
 use Rattle.exchange_hours.specs.Entries.{Entries}
 use Rattle.exchange_hours.specs.Times.{clock, hour_minute, without_seconds, time_of}
 use Rattle.exchange_hours.specs.HoursFile.{both, timed, segment_of, text_at, segment, segments, listed_segments, day_segments, week_from}
-use Rattle.exchange_hours.specs.Sessions.{widened, usual_span, early_close, shortened, span_on, interval_from, LiesInDay, LieInDays}
+use Rattle.exchange_hours.specs.Sessions.{widened, usual_span, early_close, shortened, span_on, session, interval_from, LiesInDay, LieInDays}
 use Rattle.exchange_hours.specs.Spans.{IsSpan, IsInOrder}
 
 -- ---- times
@@ -117,6 +117,7 @@ moment_lies day None h = tt
 moment_lies day (Some span) h = (omega arith, omega arith, omega arith)
 
 pub sessions_lie : (hours : Entries) → All IsInOrder hours.segments → LieInDays hours
+unfolding session
 sessions_lie hours h day =
     let usual = fold_is_span (filter (λ s. (s.weekday == day_of_week day) && s.is_market) hours.segments) None tt (All-filter _ IsInOrder hours.segments h) in
     moment_lies day (span_on hours day) (left_is_span _ _ (shortened_is_span (usual_span hours.segments (day_of_week day)) (early_close hours.early_closes day) usual))

@@ -14,12 +14,16 @@ abbrev pub close_of : Entries → ℕ → Option ℕ
 close_of hours day = option_map closing (session hours day)
 
 -- a session closes at this moment
-abbrev pub IsClose : Entries → ℕ → Type 0
-IsClose hours t = (day : ℕ) × (close_of hours day ≡ Some t)
+abbrev pub IsClosing : Entries → ℕ → Type 0
+IsClosing hours t = (day : ℕ) × (close_of hours day ≡ Some t)
 
 -- the session of this day closes at this moment
 abbrev pub closes_at : Entries → ℕ → ℕ → Bool
 closes_at hours day t = option_map_or (λ closes. closes == t) (close_of hours day) false
+
+-- `IsClosing` as a test: a session that closes here is that of the day of the minute before
+unfoldable pub is_closing : Entries → ℕ → Bool
+is_closing hours t = closes_at hours ((t - 1) / 1440) t
 
 -- The bars of a resolution, by their start and end: every minute begins a minute bar, and every whole hour an hour bar.
 -- A daily bar starts at 00:00 of its date and ends as that date's session closes.
@@ -49,6 +53,10 @@ abbrev pub bar_start : Resolution → ℕ → ℕ
 bar_start Minute end = end - 1
 bar_start Hour end = end - 60
 bar_start Daily end = 1440 * ((end - 1) / 1440)
+
+-- `IsGridEnd` as a test
+unfoldable pub is_grid_end : Entries → Resolution → ℕ → Bool
+is_grid_end hours resolution end = is_grid_bar hours resolution (bar_start resolution end) end
 
 -- no two bars of the grid end at one moment, and the one that does has this start
 abbrev pub HasOneBarAtEnd : Entries → Resolution → Type 0

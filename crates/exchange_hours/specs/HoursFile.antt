@@ -1,4 +1,4 @@
--- What the bytes of an hours file say of the market of US equities, or the first fault in them.
+-- What the bytes of an hours file say of a market, or the first fault in them.
 use Rattle.std.specs.Prelude.{ℕ, ◌≡◌, ⊤, ◌+◌, nat_lt, if◌then◌else◌, List, [], ◌∷◌, ◌++◌, codes, bytes_eq, is_some, option_and_then, option_to_list, option_map, Option, Some, None, Result, Ok, Err, Vec}
 use Rattle.std.specs.declared.alloc.Global.{Global}
 use Rattle.std.specs.Str.{is_utf8}
@@ -128,22 +128,25 @@ hours_of_entry (Some entry) =
 abbrev pub if_object : Data → Option Data
 if_object d = if is_some (as_object d) then Some d else None
 
--- the entry of US equities, where the tree has it and it is an object
-abbrev pub market_entry : Data → Option Data
-market_entry tree =
-    option_and_then if_object (option_and_then (get (codes "Equity-usa-[*]")) (get (codes "entries") tree))
-
-abbrev pub hours_of_tree : Option Data → Result Entries HoursFault
-hours_of_tree None = Err Json
-hours_of_tree (Some tree) = hours_of_entry (market_entry tree)
+-- the entry of a market, where the tree has it and it is an object
+abbrev pub market_entry : List ℕ → Data → Option Data
+market_entry market tree = option_and_then if_object (option_and_then (get market) (get (codes "entries") tree))
 
 -- the value that the bytes are in JSON, where they are one
 abbrev pub json_of : List ℕ → Option Data
 json_of bytes = if is_utf8 bytes then read bytes else None
 
--- the entries of an hours file, or its first fault
-abbrev pub hours_of : List ℕ → Result Entries HoursFault
-hours_of bytes = hours_of_tree (json_of bytes)
+abbrev pub hours_of_tree : List ℕ → Option Data → Result Entries HoursFault
+hours_of_tree market None = Err Json
+hours_of_tree market (Some tree) = hours_of_entry (market_entry market tree)
+
+-- the entries of a market by an hours file, or the file's first fault
+abbrev pub hours_of : List ℕ → List ℕ → Result Entries HoursFault
+hours_of market bytes = hours_of_tree market (json_of bytes)
+
+-- the market of US equities
+abbrev pub us_equities : List ℕ
+us_equities = codes "Equity-usa-[*]"
 
 -- ---- answers
 

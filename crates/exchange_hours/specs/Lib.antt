@@ -6,3 +6,4 @@ pub mod Spans
 pub mod Table
 pub mod Times
 pub mod HoursFile
+pub mod Worked

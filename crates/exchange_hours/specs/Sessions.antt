@@ -10,6 +10,10 @@ use Rattle.exchange_hours.specs.declared.spans.Span.{Span}
 use Rattle.exchange_hours.specs.declared.sessions.Session.{Session}
 use Rattle.exchange_hours.specs.Entries.{Entries}
 
+-- 24:00 of the last day
+abbrev pub last_moment : ℕ
+last_moment = 1440 * (last_day + 1)
+
 -- a part of a day, made so wide that a segment lies in it
 abbrev pub widened : Option Span → Segment → Option Span
 widened None s = Some (record { opens = s.start; closes = s.end })
@@ -51,7 +55,7 @@ abbrev pub interval_from : ℕ → Span → Interval
 interval_from midnight span = record { opens = midnight + span.opens; closes = midnight + span.closes }
 
 -- the session of a day
-abbrev pub session : Entries → ℕ → Option Interval
+unfoldable pub session : Entries → ℕ → Option Interval
 session hours day = option_map (interval_from (1440 * day)) (span_on hours day)
 
 -- it opens before it closes, and both lie in the day

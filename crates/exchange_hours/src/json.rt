@@ -27,11 +27,11 @@ pub(crate) fn read_tree(alloc: Global, bytes: &[u8]) -> Result<Value, HoursFault
     }
 }
 
-/// The entry of US equities. `None` exactly where the tree has none that is an object.
-pub(crate) fn market_entry(tree: &Value) -> Option<&Value>
-    ensures { option_map (λ v. view v.now) result ≡ market_entry (view tree.now) }
+/// The entry of a market. `None` exactly where the tree has none that is an object.
+pub(crate) fn market_entry<'t>(tree: &'t Value, market: &str) -> Option<&'t Value>
+    ensures { option_map (λ v. view v.now) result ≡ market_entry market.now (view tree.now) }
 {
-    let entry = tree.get("entries")?.get("Equity-usa-[*]")?;
+    let entry = tree.get("entries")?.get(market)?;
     if entry.is_object() { Some(entry) } else { None }
 }
 

@@ -7,14 +7,14 @@ mod dates;
 mod entries;
 mod fault;
 mod json;
+pub mod laws;
 mod market_hours;
 mod segments;
 mod sessions;
 mod spans;
 mod table;
-#[cfg(test)]
-mod tests;
 mod times;
+mod worked;
 
 pub use entries::{EarlyClose, Segment};
 pub use fault::HoursFault;

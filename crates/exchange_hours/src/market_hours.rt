@@ -1,8 +1,8 @@
 ghost use Rattle.std.specs.Prelude.{◌≡◌, Some, ◌+◌, ◌*◌, ◌<◌, ◌≤◌, max, pos, ◌≤ℤ◌, unsigned_abs, option_map, IfSome};
 ghost use Rattle.exchange_hours.specs.Sessions.{moment, span_on, session, session_value, is_open_at, LieInDays};
-ghost use Rattle.exchange_hours.specs.Grid.{IsGridEnd, IsClose, HasOneBarAtEnd};
+ghost use Rattle.exchange_hours.specs.Grid.{IsGridEnd, IsClosing};
 ghost use Rattle.serde_json.specs.View.{view};
-ghost use Rattle.exchange_hours.specs.HoursFile.{hours_of, hours_of_entry, IsAnswer};
+ghost use Rattle.exchange_hours.specs.HoursFile.{us_equities, hours_of, hours_of_entry, IsAnswer};
 ghost use Rattle.exchange_hours.specs.Next.{IsNext, IsNextFrom, IsNearest};
 
 use crate::closed_days::{read_early_closes, read_holidays};
@@ -20,6 +20,9 @@ use std::marker::Model;
 
 // 24:00 of the last day, 2199-12-31.
 const LAST_MOMENT: u32 = 120_968_640;
+
+// The name of the entry of US equities.
+const US_EQUITIES: &str = "Equity-usa-[*]";
 
 /// The sessions of a market.
 #[derive(Drop)]
@@ -48,10 +51,10 @@ impl Hours {
     /// The hours of US equities by the bytes of an hours file, or the first fault of the file in the order of `HoursFault`.
     /// The form of the file is that of LEAN's market hours database.
     pub fn read(alloc: Global, bytes: &[u8]) -> Result<Hours, HoursFault>
-        ensures { IsAnswer (hours_of bytes.now) result }
+        ensures { IsAnswer (hours_of us_equities bytes.now) result }
     {
         let tree = read_tree(alloc, bytes)?;
-        match market_entry(&tree) {
+        match market_entry(&tree, US_EQUITIES) {
             Some(entry) => Hours::read_entry(alloc, entry),
             None => Err(HoursFault::NoEntry),
         }
@@ -72,12 +75,12 @@ impl Hours {
         })
     }
 
+    #[tactic(auto, unfolding(crate::specs::Sessions::session))]
     /// The session of a day, or `None` exactly where the day has none.
     pub fn session(&self, day: Day) -> Option<Session>
         requires from { pos 0 ≤ℤ day.0 }
         requires to { day.0 ≤ℤ pos 84005 }
-        ensures value { result ≡ option_map session_value (session self.now (unsigned_abs day.0)) }
-        ensures within { LieInDays self.now }
+        ensures { result ≡ option_map session_value (session self.now (unsigned_abs day.0)) }
     {
         let day = day.0 as u32;
         match self.span_on(day) {
@@ -92,6 +95,7 @@ impl Hours {
         }
     }
 
+    #[tactic(auto, unfolding(crate::specs::Sessions::session))]
     /// Whether the exchange is open: at or after the opening of the session of the moment's day, and before its closing.
     pub fn is_open(&self, at: Moment) -> bool
         ensures { result ≡ is_open_at self.now at.0 }
@@ -109,10 +113,9 @@ impl Hours {
     /// The least grid end past `after` and not past `until`, or `None` exactly where there is none.
     /// The grid ends of a resolution are the ends of all bars that would be in session.
     pub fn grid_next(&self, resolution: Resolution, after: Moment, until: Moment) -> Option<Moment>
-        ensures next { IsNext (IsGridEnd self.now resolution) after.0 until.0 result }
-        ensures one_bar { HasOneBarAtEnd self.now resolution }
-        ensures within { LieInDays self.now }
+        ensures { IsNext (IsGridEnd self.now resolution) after.0 until.0 result }
     {
+        self.sessions_lie();
         match self.end_between(resolution, minute_of(after), minute_of(until)) {
             Some(end) => Some(moment_at(end)),
             None => None,
@@ -121,16 +124,22 @@ impl Hours {
 
     /// The least closing of a session past `after` and not past `until`, or `None` exactly where there is none.
     pub fn close_next(&self, after: Moment, until: Moment) -> Option<Moment>
-        ensures next { IsNext (IsClose self.now) after.0 until.0 result }
-        ensures within { LieInDays self.now }
+        ensures { IsNext (IsClosing self.now) after.0 until.0 result }
     {
+        self.sessions_lie();
         self.grid_next(Resolution::Daily, after, until)
+    }
+
+    // What the table keeps of the sessions. It does nothing.
+    pub(crate) fn sessions_lie(&self)
+        ensures { LieInDays self.now }
+    {
+        let _ = &self.spans;
     }
 
     // The least grid end past one moment and not past another.
     fn end_between(&self, resolution: Resolution, after: u32, until: u32) -> Option<u32>
-        ensures next { IsNextFrom (IsGridEnd self.now resolution) after until result }
-        ensures within { LieInDays self.now }
+        ensures { IsNextFrom (IsGridEnd self.now resolution) after until result }
     {
         let days = self.spans.len() as u32;
         for day in after / 1440..days.min(until.div_ceil(1440)) {
@@ -146,6 +155,7 @@ impl Hours {
         requires { day ≤ 84005 }
         ensures { IsNextFrom (IsGridEnd self.now resolution) (max after (1440 * day)) (1440 * day + 1440) result }
     {
+        self.sessions_lie();
         let midnight = 1440 * day;
         let span = self.span_on(day)?;
         let minute = span.end_past(resolution, after.saturating_sub(midnight))?;
@@ -155,8 +165,7 @@ impl Hours {
     // The hours of a day, as minutes of the day.
     fn span_on(&self, day: u32) -> Option<Span>
         requires { day ≤ 84005 }
-        ensures value { result ≡ span_on self.now day }
-        ensures within { LieInDays self.now }
+        ensures { result ≡ span_on self.now day }
     {
         self.spans[day as usize]
     }

@@ -1,6 +1,8 @@
 -- Filters over neighbouring numbers.
-use Rattle.std.proofs.Common.{ℕ, zero, suc, ◌+◌, ◌-◌, ◌<◌, ◌≤◌, ◌≡◌, Bool, true, false, cond, nat_lt, List, [], ◌∷◌, filter, inl, inr, refl, sym, ap, ◌∙◌, arith}
+use Rattle.std.proofs.Common.{ℕ, zero, suc, ◌+◌, ◌-◌, ◌<◌, ◌≤◌, ◌≡◌, max, Bool, true, false, cond, nat_lt, List, [], ◌∷◌, filter, inl, inr, refl, sym, ap, ◌∙◌, arith}
 use Rattle.std.specs.List.{range_with_len}
+use Rattle.std.specs.List.Sorted.{IsStrictlyIncreasing}
+use Rattle.std.proofs.lemmas.List.FromFn.{length-range_with_len, get_or-range_with_len}
 use Rattle.std.proofs.lemmas.Bool.{cases_lt, lt-ltb, le-ltb}
 
 module _ (p : ℕ → Bool) where
@@ -66,8 +68,15 @@ module _ (p : ℕ → Bool) where
         ∙ past_from n (from + 1) count (omega arith) ∙ ap (λ e. filter p (range_with_len (n + 1) (e - (n + 1)))) rest
   ]
 
-  pub past : (n end : ℕ) → filter (nat_lt n) (filter p (range_with_len 0 end)) ≡ passing (n + 1) end
-  past n end = let same : 0 + end ≡ end = omega arith in past_from n 0 end (omega arith) ∙ ap (λ e. filter p (range_with_len (n + 1) (e - (n + 1)))) same
+  -- of those from one number on, the ones that are past n
+  pub past : (n from end : ℕ) → filter (nat_lt n) (passing from end) ≡ passing (max from (n + 1)) end
+  past n from end = elim (cases_lt n from) [
+    | inl after ↦ let first : max from (n + 1) ≡ from = omega arith in all_past n from (end - from) after ∙ ap (λ f. passing f end) (sym first)
+    | inr before ↦
+        let first : max from (n + 1) ≡ n + 1 = omega arith in
+        let count : from + (end - from) - (n + 1) ≡ end - (n + 1) = omega arith in
+        past_from n from (end - from) (omega arith) ∙ ap (λ c. filter p (range_with_len (n + 1) c)) count ∙ ap (λ f. passing f end) (sym first)
+  ]
 
   -- nothing passes from one number on, or the first that does stands before the others
   pub nothing_passes : (from end : ℕ) → ((d : ℕ) → from ≤ d → d < end → p d ≡ false) → passing from end ≡ []
@@ -76,3 +85,15 @@ module _ (p : ℕ → Bool) where
   pub least_passes : (from least end : ℕ) → from ≤ least → least < end → p least ≡ true → ((d : ℕ) → from ≤ d → d < least → p d ≡ false) → passing from end ≡ least ∷ passing (least + 1) end
   least_passes from least end l m e h =
       skipped (least - from) from least end (omega arith) (omega arith) h ∙ first_passes least end m e
+
+-- a test that each number passes leaves none out
+pub all_pass : (from count : ℕ) → filter (λ _. true) (range_with_len from count) ≡ range_with_len from count
+all_pass from zero = refl
+all_pass from (suc count) = ap (λ rest. from ∷ rest) (all_pass (from + 1) count)
+
+-- neighbouring numbers rise
+pub range_rises : (from count : ℕ) → IsStrictlyIncreasing (range_with_len from count)
+range_rises from count k within =
+    let before = get_or-range_with_len from count k 0 (omega (arith, length-range_with_len from count)) in
+    let after = get_or-range_with_len from count (k + 1) 0 (omega (arith, length-range_with_len from count)) in
+    omega arith

@@ -1,5 +1,6 @@
 -- The least of some days.
-use Rattle.std.specs.Prelude.{ℕ, ◌+◌, ◌<◌, ◌≤◌, ◌≡◌, Bool, true, false, Option, Some, None}
+use Rattle.std.specs.Prelude.{ℕ, ◌+◌, ◌<◌, ◌≤◌, ◌≡◌, max, Bool, true, false, ℤ, Option, Some, None}
+use Rattle.feed_paths.specs.Files.{from_1970}
 
 -- the least day that passes a test, from one day on and before another, or nothing where there is none
 abbrev pub IsLeast : (ℕ → Bool) → ℕ → ℕ → Option ℕ → Type 0
@@ -7,7 +8,7 @@ IsLeast test from end None = (day : ℕ) → from ≤ day → day < end → test
 IsLeast test from end (Some least) =
     (test least ≡ true) × (from ≤ least) × (least < end) × ((day : ℕ) → from ≤ day → day < least → test day ≡ false)
 
--- the first number past one, or past none
-abbrev pub first_past : Option ℕ → ℕ
-first_past None = 0
-first_past (Some n) = n + 1
+-- a day, or the first one past another where that is later
+abbrev pub first_past : ℕ → Option ℕ → ℕ
+first_past from None = from
+first_past from (Some file) = max from (file + 1)

@@ -1,7 +1,6 @@
 //! The files of a feed by their numbers, in the order in which they are read.
-ghost use Rattle.std.specs.Prelude.{◌≡◌, ◌+◌, ◌-◌, ◌<◌, ◌≤◌, ◌≤ℤ◌, pos, is_some, IfNone, IfSome, Some, None, if◌then◌else◌, [], ◌∷◌};
-ghost use Rattle.exchange_hours.specs.Sessions.{session};
-ghost use Rattle.feed_paths.specs.Files.{day_of, is_minute_file, is_coarse_file, count_to, files_after, first_of};
+ghost use Rattle.std.specs.Prelude.{◌≡◌, ◌≤◌, ◌-ℤ◌, ◌≤ℤ◌, pos, true, is_some, IfNone, IfSome, Some, None, if◌then◌else◌, [], ◌∷◌};
+ghost use Rattle.feed_paths.specs.Files.{from_1970, day_of, count_to, has_session, files_after};
 ghost use Rattle.feed_paths.specs.Least.{IsLeast, first_past};
 
 use exchange_hours::Hours;
@@ -18,10 +17,9 @@ use lean_items::{FeedKey, FeedKind};
 /// The files are those of US equities in LEAN's "Data Format" topic. The window ends by 2199-12-31, day 84,005.
 pub fn next_file(key: FeedKey, window: Window, hours: &Hours, after: Option<u32>) -> Option<u32>
     requires { window.last.0 ≤ℤ pos 84005 }
-    ensures first { result ≡ first_of (files_after key window hours.now after) }
     ensures none { IfNone result (files_after key window hours.now after ≡ []) }
-    ensures rest { IfSome result (λ n. files_after key window hours.now after ≡ n ∷ files_after key window hours.now (Some n)) }
-    ensures later { IfSome result (λ n. IfSome after (λ m. m < n)) }
+    ensures rest { IfSome result (λ n. files_after key window hours.now after
+        ≡ n ∷ files_after key window hours.now (Some n)) }
     ensures day { IfSome result (λ n. n ≤ 84005) }
 {
     match key.kind {
@@ -33,34 +31,34 @@ pub fn next_file(key: FeedKey, window: Window, hours: &Hours, after: Option<u32>
     }
 }
 
-// The least day past `after` whose next day lies in the window.
+// The least day past `after`, from the day before the window's first to the day before its last.
 fn next_coarse(window: Window, after: Option<u32>) -> Option<u32>
     requires { window.last.0 ≤ℤ pos 84005 }
-    ensures { IsLeast (is_coarse_file window) (first_past after) (count_to window.last.0) result }
+    ensures { IsLeast (λ _. true) (first_past (from_1970 (window.first.0 -ℤ pos 1)) after)
+        (count_to (window.last.0 -ℤ pos 1)) result }
 {
-    // the day before the window, or day 0
-    let first = count_before(window.first).saturating_sub(1);
-    let day = first.max(first_past(after));
-    if day < count_before(window.last) {
+    let day = first_day(window.first.0 as i64 - 1, after);
+    if (day as i64) < window.last.0 as i64 {
         Some(day as u32)
     } else {
         None
     }
 }
 
-// The least day past `after` with a session, from the day of the feed's start to the last one of the window.
+// The least day past `after` with a session, from the day of a moment to the last one of the window.
 fn next_minute(start: Moment, last: Day, hours: &Hours, after: Option<u32>) -> Option<u32>
     requires { last.0 ≤ℤ pos 84005 }
-    ensures { IsLeast (is_minute_file start.0 hours.now) (first_past after) (count_to last.0) result }
+    ensures { IsLeast (has_session hours.now) (first_past (day_of start.0) after)
+        (count_to last.0) result }
 {
-    let from = day_of(start).max(first_past(after));
-    next_session(hours, from, count_to(last))
+    let end = (last.0 as i64 + 1).max(0) as u64;
+    next_session(hours, first_day(start.0 / 1440, after), end)
 }
 
 // The least day with a session, from one day on and before another.
 fn next_session(hours: &Hours, from: u64, end: u64) -> Option<u32>
     requires { end ≤ 84006 }
-    ensures { IsLeast (λ day. is_some (session hours.now day)) from end result }
+    ensures { IsLeast (has_session hours.now) from end result }
 {
     for day in from..end {
         if hours.session(Day(day as i32)).is_some() {
@@ -70,6 +68,17 @@ fn next_session(hours: &Hours, from: u64, end: u64) -> Option<u32>
     None
 }
 
+// The first day that is neither before `from` nor before 1970-01-01, and past `after`.
+fn first_day(from: i64, after: Option<u32>) -> u64
+    ensures { result ≡ first_past (from_1970 from) after }
+{
+    let from = from.max(0) as u64;
+    match after {
+        Some(file) => from.max(file as u64 + 1),
+        None => from,
+    }
+}
+
 // The number of the one file of a feed.
 fn only_file(after: Option<u32>) -> Option<u32>
     ensures { result ≡ (if is_some after then None else Some 0) }
@@ -77,35 +86,5 @@ fn only_file(after: Option<u32>) -> Option<u32>
     match after {
         Some(_) => None,
         None => Some(0),
-    }
-}
-
-// The day of a moment, or day 0 where it lies before 1970.
-fn day_of(at: Moment) -> u64
-    ensures { result ≡ day_of at.0 }
-{
-    at.0.max(0) as u64 / 1440
-}
-
-// How many days there are from 1970-01-01 to a day, and how many before it.
-fn count_to(day: Day) -> u64
-    ensures { result ≡ count_to day.0 }
-{
-    (day.0 as i64 + 1).max(0) as u64
-}
-
-fn count_before(day: Day) -> u64
-    ensures { result ≡ count_to day.0 - 1 }
-{
-    count_to(day).saturating_sub(1)
-}
-
-// The least number past a file's, or past none.
-fn first_past(after: Option<u32>) -> u64
-    ensures { result ≡ first_past after }
-{
-    match after {
-        Some(file) => file as u64 + 1,
-        None => 0,
     }
 }

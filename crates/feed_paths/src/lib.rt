@@ -3,9 +3,9 @@
 #![tactic(auto)]
 
 mod files;
+pub mod laws;
 mod paths;
-#[cfg(test)]
-mod tests;
+mod worked;
 
 pub use files::next_file;
 pub use paths::path_text;

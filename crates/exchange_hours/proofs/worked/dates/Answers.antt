@@ -1,6 +1,6 @@
 use Rattle.std.proofs.Common.{refl}
 use Rattle.jiff_core.specs.Calendar.{days_from_civil, day_count, days_of_years, days_of_months}
-use Rattle.exchange_hours.proofs.tests.worked_dates.Goals as goal
+use Rattle.exchange_hours.proofs.worked.dates.Goals as goal
 
 pub returns-clause-short : goal.returns-clause-short
 unfolding days_from_civil day_count days_of_years days_of_months

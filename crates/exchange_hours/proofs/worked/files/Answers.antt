@@ -4,7 +4,7 @@ use Rattle.std.specs.Char.{encode_utf8}
 use Rattle.serde_json.proofs.OnLiterals.{serde_json_on_literals}
 use Rattle.jiff_core.specs.Calendar.{days_from_civil, day_count, days_of_years, days_of_months}
 use Rattle.exchange_hours.specs.HoursFile.{week_from}
-use Rattle.exchange_hours.proofs.tests.worked_files.Goals as goal
+use Rattle.exchange_hours.proofs.worked.files.Goals as goal
 
 pub returns-clause-no_json : goal.returns-clause-no_json
 unfolding is_utf8 chars encode_utf8 serde_json_on_literals
