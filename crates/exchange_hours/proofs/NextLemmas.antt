@@ -3,28 +3,29 @@ use Rattle.std.proofs.Common.{ℕ, ℤ, pos, negsuc, Option, option_map, ◌<ℤ
 use Rattle.std.proofs.lemmas.Int.{ints}
 use Rattle.std.proofs.lemmas.Bool.{cases_lt}
 use Rattle.lean_fixed.specs.declared.time.Moment.{Moment}
-use Rattle.exchange_hours.specs.Sessions.{moment}
+use Rattle.lean_fixed.specs.Moments.{minutes_per_day}
+use Rattle.exchange_hours.specs.Sessions.{moment, end_of_days}
 use Rattle.exchange_hours.specs.Next.{IsNext, IsNextFrom, IsNearest}
 
 -- what lies past `after` lies past the beginning of the day in hand: the day's least is the least of all
-pub next_on_day : (P : ℕ → Type 0) (after midnight until next : ℕ) → ((t : ℕ) → P t → after < t → midnight < t) → IsNextFrom P (max after midnight) (midnight + 1440) (Some next) → next ≤ until
+pub next_on_day : (P : ℕ → Type 0) (after midnight until next : ℕ) → ((t : ℕ) → P t → after < t → midnight < t) → IsNextFrom P (max after midnight) (midnight + minutes_per_day) (Some next) → next ≤ until
     → IsNextFrom P after until (Some next)
 next_on_day P after midnight until next ahead found within =
     (found.0, omega (arith, found.1), within, λ u p past. found.3 u p (omega (arith, ahead u p past)))
 
-pub next_past : (P : ℕ → Type 0) (after midnight until next : ℕ) → ((t : ℕ) → P t → after < t → midnight < t) → IsNextFrom P (max after midnight) (midnight + 1440) (Some next) → until < next
+pub next_past : (P : ℕ → Type 0) (after midnight until next : ℕ) → ((t : ℕ) → P t → after < t → midnight < t) → IsNextFrom P (max after midnight) (midnight + minutes_per_day) (Some next) → until < next
     → IsNextFrom P after until None
 next_past P after midnight until next ahead found beyond t p past within =
     omega (arith, found.3 t p (omega (arith, ahead t p past)))
 
 -- nothing is on the day in hand, so what is left lies past its end
-pub next_later : (P : ℕ → Type 0) (after midnight : ℕ) → ((t : ℕ) → P t → after < t → midnight < t) → IsNextFrom P (max after midnight) (midnight + 1440) None
-    → (t : ℕ) → P t → after < t → midnight + 1440 < t
+pub next_later : (P : ℕ → Type 0) (after midnight : ℕ) → ((t : ℕ) → P t → after < t → midnight < t) → IsNextFrom P (max after midnight) (midnight + minutes_per_day) None
+    → (t : ℕ) → P t → after < t → midnight + minutes_per_day < t
 next_later P after midnight ahead none t p past =
-    elim (cases_lt (midnight + 1440) t) [ inl later ↦ later | inr within ↦ absurd (none t p (omega (arith, ahead t p past)) within) ]
+    elim (cases_lt (midnight + minutes_per_day) t) [ inl later ↦ later | inr within ↦ absurd (none t p (omega (arith, ahead t p past)) within) ]
 
 abbrev Lies : ℕ → Type 0
-Lies t = (0 < t) × (t ≤ 120968640)
+Lies t = (0 < t) × (t ≤ end_of_days)
 
 later_than : (z : ℤ) (n t : ℕ) → IsNearest z n → Lies t → z <ℤ pos t → n < t
 later_than (pos m) n t is lies past = omega (arith, ints)
@@ -43,7 +44,7 @@ is_at_most (pos m) n t is lies past = omega (arith, ints)
 is_at_most (negsuc m) n t is lies past = omega (arith, ints)
 
 -- the same search between any two moments, since none is found before 1970 or after the last day
-pub next_from_nearest : (P : ℕ → Type 0) (after until : ℤ) (a u : ℕ) (found : Option ℕ) → ((t : ℕ) → P t → (0 < t) × (t ≤ 120968640)) → IsNearest after a → IsNearest until u → IsNextFrom P a u found
+pub next_from_nearest : (P : ℕ → Type 0) (after until : ℤ) (a u : ℕ) (found : Option ℕ) → ((t : ℕ) → P t → (0 < t) × (t ≤ end_of_days)) → IsNearest after a → IsNearest until u → IsNextFrom P a u found
     → IsNext P after until (option_map moment found)
 next_from_nearest P after until a u None lies from to none =
     λ t p past within. none t p (later_than after a t from (lies t p) past) (at_most until u t to (lies t p) within)

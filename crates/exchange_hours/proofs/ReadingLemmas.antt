@@ -1,26 +1,20 @@
 -- Readings one after the other.
-use Rattle.std.proofs.Common.{◌≡◌, ℕ, ◌+◌, ◌<◌, ◌≤◌, Option, List, [], ◌∷◌, ◌++◌, length, get_or, drop, Result, Ok, Err, String, Global, string_bytes, append_assoc, refl, sym, ◌∙◌, ap}
+use Rattle.std.proofs.Common.{◌≡◌, ℕ, ◌+◌, ◌<◌, ◌≤◌, Option, List, [], ◌∷◌, ◌++◌, length, get_or, drop, Result, Ok, Err, String, Global, string_bytes, append_assoc, refl, sym, ◌∙◌, ap, arith}
+use Rattle.std.specs.List.{enumerate_from}
+use Rattle.std.proofs.lemmas.List.FromFn.{get_or-enumerate_from}
 use Rattle.std.proofs.lemmas.List.{at_drop_more, drop_all, append-nil}
 use Rattle.serde_json.specs.Data.{Data}
-use Rattle.serde_json.specs.Find.{as_str, get}
-use Rattle.serde_json.specs.View.{view, members_view}
+use Rattle.serde_json.specs.Find.{get}
+use Rattle.serde_json.specs.View.{view, items_view, members_view}
 use Rattle.serde_json.specs.declared.value.Value.{Value}
 use Rattle.exchange_hours.specs.declared.fault.HoursFault.{HoursFault}
 use Rattle.exchange_hours.specs.declared.fault.HoursFault.TheVariants.{Json, NoEntry, DayForm, TimeForm, Holiday, EarlyClose, NoMemory}
-use Rattle.exchange_hours.specs.HoursFile.{both, day_segments, early_close, early_closes, week_from, IsFault}
+use Rattle.exchange_hours.specs.declared.entries.Segment.{Segment}
+use Rattle.exchange_hours.specs.HoursFile.{both, each, listed, named, segments, weekday_names, week, early_close, IsFault}
 
 moved : {A : Type 0} (done gave : List A) (rest : Result (List A) HoursFault) → both (Ok done) (both (Ok gave) rest) ≡ both (Ok (done ++ gave)) rest
 moved done gave (Err fault) = refl
 moved done gave (Ok more) = ap Ok (sym (append_assoc done gave more))
-
--- what one more value gave goes to what is done
-pub both_step : {X A : Type 0} (all_of : List X → Result (List A) HoursFault) (one_of : X → Result (List A) HoursFault) → ((x : X) (xs : List X) → all_of (x ∷ xs) ≡ both (one_of x) (all_of xs))
-    → (done : List A) (xs : List X) (i : ℕ) (x : X) (gave : List A) (whole : Result (List A) HoursFault) → i < length xs → x ≡ get_or xs i x → one_of x ≡ Ok gave → both (Ok done) (all_of (drop i xs)) ≡ whole
-    → both (Ok (done ++ gave)) (all_of (drop (i + 1) xs)) ≡ whole
-both_step all_of one_of step done xs i x gave whole within is_next is before =
-    let here : all_of (drop i xs) ≡ both (one_of x) (all_of (drop (i + 1) xs)) =
-    at_drop_more all_of xs i x within ∙ ap (λ y. all_of (y ∷ drop (i + 1) xs)) (sym is_next) ∙ step x (drop (i + 1) xs) in
-    sym (moved done gave (all_of (drop (i + 1) xs))) ∙ ap (λ s. both (Ok done) (both s (all_of (drop (i + 1) xs)))) (sym is) ∙ ap (both (Ok done)) (sym here) ∙ before
 
 -- a fault among what is left is the fault of the whole
 pub both_fault : {A : Type 0} (done : List A) (step rest whole : Result (List A) HoursFault) (fault : HoursFault) → both (Ok done) (both step rest) ≡ whole → IsFault (both (Ok done) step) fault → IsFault whole fault
@@ -48,23 +42,67 @@ pub both_nothing : {A : Type 0} (xs : List A) (whole : Result (List A) HoursFaul
 both_nothing xs (Err fault) is = refl
 both_nothing xs (Ok ys) is = ap (λ zs. Ok (zs ++ ys)) is
 
--- the next weekday and those after it
-pub week_step : (names : List (List ℕ)) (weekday : ℕ) (name : List ℕ) (entry : Data) (found : Option Data) → weekday < length names → name ≡ get_or names weekday [] → found ≡ get name entry
-    → week_from weekday (drop weekday names) entry ≡ both (day_segments weekday found) (week_from (weekday + 1) (drop (weekday + 1) names) entry)
-unfolding week_from
-week_step names weekday name entry found within is_name is_found =
-    at_drop_more (λ ns. week_from weekday ns entry) names weekday [] within ∙ rw (← is_name, ← is_found) refl
-
-pub week_end : (names : List (List ℕ)) (weekday : ℕ) (entry : Data) → length names ≤ weekday → week_from weekday (drop weekday names) entry ≡ Ok []
-unfolding week_from
-week_end names weekday entry past = ap (λ ns. week_from weekday ns entry) (drop_all weekday names past)
-
 -- nothing is left, so what is done is the whole
 pub both_end : {A : Type 0} (done : List A) (rest whole : Result (List A) HoursFault) → rest ≡ Ok [] → both (Ok done) rest ≡ whole → whole ≡ Ok done
 both_end done rest whole none is = sym is ∙ ap (both (Ok done)) none ∙ ap Ok (append-nil done)
 
--- the next early close and those after it
-pub closes_step : (left more : List (String Global × Value)) (date : String Global) (time : Value) (key : List ℕ) → left ≡ (date, time) ∷ more → key ≡ string_bytes date
-    → early_closes (members_view left) ≡ both (early_close key (as_str (view time))) (early_closes (members_view more))
-closes_step left more date time key is is_key =
-    ap (λ ms. early_closes (members_view ms)) is ∙ ap (λ k. both (early_close k (as_str (view time))) (early_closes (members_view more))) (sym is_key)
+-- ---- a loop that reads the values of a list
+
+-- what is left of the list from one place on
+abbrev pub left : {A : Type 0} → (Data → Result (List A) HoursFault) → List Value → ℕ → Result (List A) HoursFault
+left read xs i = each read (listed (items_view (drop i xs)))
+
+left_next : {A : Type 0} (read : Data → Result (List A) HoursFault) (xs : List Value) (i : ℕ) (x : Value) → i < length xs → x ≡ get_or xs i x
+    → left read xs i ≡ both (read (view x)) (left read xs (i + 1))
+left_next read xs i x within is =
+    at_drop_more (λ vs. each read (listed (items_view vs))) xs i x within
+    ∙ ap (λ y. both (read (view y)) (left read xs (i + 1))) (sym is)
+
+pub left_more : {A : Type 0} (read : Data → Result (List A) HoursFault) (done now : List A) (xs : List Value) (i : ℕ) (x : Value) (whole : Result (List A) HoursFault) → i < length xs → x ≡ get_or xs i x
+    → both (Ok done) (left read xs i) ≡ whole → both (Ok done) (read (view x)) ≡ Ok now → both (Ok now) (left read xs (i + 1)) ≡ whole
+left_more read done now xs i x whole within is before gave =
+    both_next done now (read (view x)) (left read xs (i + 1)) whole (ap (both (Ok done)) (sym (left_next read xs i x within is)) ∙ before) gave
+
+pub left_fault : {A : Type 0} (read : Data → Result (List A) HoursFault) (done : List A) (xs : List Value) (i : ℕ) (x : Value) (whole : Result (List A) HoursFault) (fault : HoursFault) → i < length xs → x ≡ get_or xs i x
+    → both (Ok done) (left read xs i) ≡ whole → IsFault (both (Ok done) (read (view x))) fault → IsFault whole fault
+left_fault read done xs i x whole fault within is before gave =
+    both_fault done (read (view x)) (left read xs (i + 1)) whole fault (ap (both (Ok done)) (sym (left_next read xs i x within is)) ∙ before) gave
+
+pub left_none : {A : Type 0} (read : Data → Result (List A) HoursFault) (done : List A) (xs : List Value) (i : ℕ) (whole : Result (List A) HoursFault) → length xs ≤ i → both (Ok done) (left read xs i) ≡ whole → whole ≡ Ok done
+left_none read done xs i whole past before =
+    both_end done (left read xs i) whole (ap (λ vs. each read (listed (items_view vs))) (drop_all i xs past)) before
+
+-- ---- the loop over the members of an object
+
+pub members_next : (left more : List (String Global × Value)) (date : String Global) (time : Value) (key : List ℕ) → left ≡ (date, time) ∷ more → key ≡ string_bytes date
+    → each early_close (named (members_view left)) ≡ both (early_close (key, view time)) (each early_close (named (members_view more)))
+members_next left more date time key is is_key =
+    ap (λ ms. each early_close (named (members_view ms))) is
+    ∙ ap (λ k. both (early_close (k, view time)) (each early_close (named (members_view more)))) (sym is_key)
+
+-- ---- the loop over the weekdays
+
+-- what is left of the week from one weekday on
+pub week_left : ℕ → Data → Result (List Segment) HoursFault
+week_left weekday entry = each (λ day. segments day.0 (get day.1 entry)) (drop weekday (enumerate_from 0 weekday_names))
+
+pub week_first : (entry : Data) → week entry ≡ week_left 0 entry
+unfolding week week_left
+week_first entry = refl
+
+pub week_next : (weekday : ℕ) (name : List ℕ) (entry : Data) (found : Option Data) → weekday < 7 → name ≡ get_or weekday_names weekday [] → found ≡ get name entry
+    → week_left weekday entry ≡ both (segments weekday found) (week_left (weekday + 1) entry)
+unfolding week_left
+week_next weekday name entry found within is_name is_found =
+    let read : ℕ × List ℕ → Result (List Segment) HoursFault = λ day. segments day.0 (get day.1 entry) in
+    let days = enumerate_from 0 weekday_names in
+    let number : 0 + weekday ≡ weekday = omega arith in
+    at_drop_more (each read) days weekday (weekday, []) within
+    ∙ ap (λ day. both (read day) (week_left (weekday + 1) entry)) (get_or-enumerate_from 0 weekday_names weekday (weekday, []) within)
+    ∙ ap (λ d. both (segments d (get (get_or weekday_names weekday []) entry)) (week_left (weekday + 1) entry)) number
+    ∙ ap (λ n. both (segments weekday (get n entry)) (week_left (weekday + 1) entry)) (sym is_name)
+    ∙ ap (λ o. both (segments weekday o) (week_left (weekday + 1) entry)) (sym is_found)
+
+pub week_none : (weekday : ℕ) (entry : Data) → 7 ≤ weekday → week_left weekday entry ≡ Ok []
+unfolding week_left
+week_none weekday entry past = ap (each (λ day. segments day.0 (get day.1 entry))) (drop_all weekday (enumerate_from 0 weekday_names) past)

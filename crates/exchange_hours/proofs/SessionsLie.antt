@@ -1,26 +1,29 @@
 -- Sessions lie in their days, since the segments that a file has do.
-use Rattle.std.proofs.Common.{◌≡◌, ℕ, ◌+◌, ◌*◌, ◌≤◌, ◌&&◌, ◌||◌, ◌==◌, min, Bool, true, false, cond, nat_lt, nat_le, List, [], ◌∷◌, length, take, drop, slice_index, codes, bytes_eq, fold, filter, All, Option, Some, None, option_map, IfSome, Result, Ok, Err, refl, arith}
+use Rattle.std.proofs.Common.{◌≡◌, ℕ, ◌+◌, ◌*◌, ◌≤◌, ◌&&◌, ◌||◌, ◌==◌, min, Bool, true, false, cond, nat_lt, nat_le, List, [], ◌∷◌, length, take, drop, slice_index, codes, bytes_eq, fold, filter, All, Option, Some, None, option_map, IfSome, Result, Ok, Err, refl, sym, subst, arith}
 use Rattle.std.proofs.lemmas.Bool.Decides.{nat_tests}
 use Rattle.std.proofs.lemmas.List.Elements.{All-nil, All-cons, All-head, All-tail, All-append, All-filter}
-use Rattle.serde_json.specs.Data.{Data, Items, no_items, item}
-use Rattle.serde_json.specs.Find.{get, as_array}
+use Rattle.std.specs.List.{enumerate_from}
+use Rattle.serde_json.specs.Data.{Data}
+use Rattle.serde_json.specs.Find.{get}
 use Rattle.lean_fixed.specs.Calendar.{weekday as day_of_week}
 use Rattle.lean_fixed.specs.Digits.{digits}
+use Rattle.lean_fixed.specs.Moments.{midnight, minutes_per_day}
 use Rattle.exchange_hours.specs.declared.entries.Segment.{Segment}
 use Rattle.exchange_hours.specs.declared.spans.Span.{Span}
 use Rattle.exchange_hours.specs.declared.fault.HoursFault.{HoursFault}
+use Rattle.exchange_hours.specs.declared.fault.HoursFault.TheVariants.{DayForm}
 use Rattle.exchange_hours.specs.Entries.{Entries}
 use Rattle.exchange_hours.specs.Times.{clock, hour_minute, without_seconds, time_of}
-use Rattle.exchange_hours.specs.HoursFile.{both, timed, segment_of, text_at, segment, segments, listed_segments, day_segments, week_from}
+use Rattle.exchange_hours.specs.HoursFile.{both, each, each_or, list_of, timed, segment_of, text_at, segment, segments, weekday_names, week}
 use Rattle.exchange_hours.specs.Sessions.{widened, usual_span, early_close, shortened, span_on, session, interval_from, LiesInDay, LieInDays}
 use Rattle.exchange_hours.specs.Spans.{IsSpan, IsInOrder}
 
 -- ---- times
 
 abbrev IsMinute : Option ℕ → Type 0
-IsMinute found = IfSome found (λ minute. minute ≤ 1440)
+IsMinute found = IfSome found (λ minute. minute ≤ minutes_per_day)
 
-guarded : (b : Bool) (minute : ℕ) → (b ≡ true → minute ≤ 1440) → IsMinute (cond b (Some minute) None)
+guarded : (b : Bool) (minute : ℕ) → (b ≡ true → minute ≤ minutes_per_day) → IsMinute (cond b (Some minute) None)
 guarded true minute h = h refl
 guarded false minute h = tt
 
@@ -40,7 +43,7 @@ hour_minute_is_minute text =
 
 time_is_minute : (text : List ℕ) → IsMinute (time_of text)
 time_is_minute text =
-    chosen (bytes_eq text (codes "1.00:00:00") || bytes_eq (without_seconds text) (codes "24:00")) (Some 1440) _ (omega arith) (hour_minute_is_minute (without_seconds text))
+    chosen (bytes_eq text (codes "1.00:00:00") || bytes_eq (without_seconds text) (codes "24:00")) (Some minutes_per_day) _ (omega arith) (hour_minute_is_minute (without_seconds text))
 
 -- ---- segments
 
@@ -69,24 +72,32 @@ segment_in_order weekday (Some start) None state = tt
 segment_in_order weekday (Some start) (Some end) None = tt
 segment_in_order weekday (Some start) (Some end) (Some state) = timed_in_order weekday state (time_of start) (time_of end) (time_is_minute end)
 
-segments_in_order : (weekday : ℕ) (list : Items) → InOrder (segments weekday list)
-segments_in_order weekday no_items = All-nil IsInOrder
-segments_in_order weekday (item d ds) =
-    both_in_order (segment weekday d) (segments weekday ds) (segment_in_order weekday (text_at (codes "start") d) (text_at (codes "end") d) (text_at (codes "state") d)) (segments_in_order weekday ds)
+listed_in_order : (weekday : ℕ) (list : List Data) → InOrder (each (segment weekday) list)
+listed_in_order weekday [] = All-nil IsInOrder
+listed_in_order weekday (d ∷ ds) =
+    both_in_order (segment weekday d) (each (segment weekday) ds) (segment_in_order weekday (text_at (codes "start") d) (text_at (codes "end") d) (text_at (codes "state") d)) (listed_in_order weekday ds)
 
-listed_in_order : (weekday : ℕ) (list : Option Items) → InOrder (listed_segments weekday list)
-listed_in_order weekday None = tt
-listed_in_order weekday (Some list) = segments_in_order weekday list
+or_in_order : (weekday : ℕ) (list : Option (List Data)) → InOrder (each_or DayForm (segment weekday) list)
+or_in_order weekday None = tt
+or_in_order weekday (Some list) = listed_in_order weekday list
 
-day_in_order : (weekday : ℕ) (found : Option Data) → InOrder (day_segments weekday found)
+day_in_order : (weekday : ℕ) (found : Option Data) → InOrder (segments weekday found)
 day_in_order weekday None = All-nil IsInOrder
-day_in_order weekday (Some d) = listed_in_order weekday (as_array d)
+day_in_order weekday (Some d) = or_in_order weekday (list_of d)
 
-pub week_in_order : (weekday : ℕ) (names : List (List ℕ)) (entry : Data) → InOrder (week_from weekday names entry)
-unfolding week_from
-week_in_order weekday [] entry = All-nil IsInOrder
-week_in_order weekday (name ∷ names) entry =
-    both_in_order (day_segments weekday (get name entry)) (week_from (weekday + 1) names entry) (day_in_order weekday (get name entry)) (week_in_order (weekday + 1) names entry)
+days_in_order : (entry : Data) (days : List (ℕ × List ℕ)) → InOrder (each (λ day. segments day.0 (get day.1 entry)) days)
+days_in_order entry [] = All-nil IsInOrder
+days_in_order entry (day ∷ days) =
+    both_in_order (segments day.0 (get day.1 entry)) (each (λ day. segments day.0 (get day.1 entry)) days) (day_in_order day.0 (get day.1 entry)) (days_in_order entry days)
+
+week_in_order : (entry : Data) → InOrder (week entry)
+unfolding week
+week_in_order entry = days_in_order entry (enumerate_from 0 weekday_names)
+
+-- the segments that were read from a week
+pub week_read : (done items : List Segment) (entry : Data) → done ≡ [] → both (Ok done) (week entry) ≡ Ok items → All IsInOrder items
+week_read done items entry none read =
+    subst InOrder read (both_in_order (Ok done) (week entry) (let P : List Segment → Type 0 = All IsInOrder in subst P (sym none) (All-nil IsInOrder)) (week_in_order entry))
 
 -- ---- hours of a day
 
@@ -112,7 +123,7 @@ left_is_span : (b : Bool) (found : Option Span) → IfSome found IsSpan → IfSo
 left_is_span true found h = tt
 left_is_span false found h = h
 
-moment_lies : (day : ℕ) (found : Option Span) → IfSome found IsSpan → IfSome (option_map (interval_from (1440 * day)) found) (LiesInDay day)
+moment_lies : (day : ℕ) (found : Option Span) → IfSome found IsSpan → IfSome (option_map (interval_from (midnight day)) found) (LiesInDay day)
 moment_lies day None h = tt
 moment_lies day (Some span) h = (omega arith, omega arith, omega arith)
 

@@ -3,6 +3,7 @@ use Rattle.std.specs.Prelude.{ℕ, ◌+◌, ◌-◌, ◌*◌, ◌/◌, ◌%◌, 
 use Rattle.std.specs.Option.{option_map_or}
 use Rattle.lean_fixed.specs.declared.resolution.Resolution.{Resolution}
 use Rattle.lean_fixed.specs.declared.resolution.Resolution.TheVariants.{Minute, Hour, Daily}
+use Rattle.lean_fixed.specs.Moments.{midnight, day_of, minute_of_day}
 use Rattle.exchange_hours.specs.Entries.{Entries}
 use Rattle.exchange_hours.specs.Sessions.{session, Interval}
 
@@ -23,14 +24,14 @@ closes_at hours day t = option_map_or (λ closes. closes == t) (close_of hours d
 
 -- `IsClosing` as a test: a session that closes here is that of the day of the minute before
 unfoldable pub is_closing : Entries → ℕ → Bool
-is_closing hours t = closes_at hours ((t - 1) / 1440) t
+is_closing hours t = closes_at hours (day_of (t - 1)) t
 
 -- The bars of a resolution, by their start and end: every minute begins a minute bar, and every whole hour an hour bar.
 -- A daily bar starts at 00:00 of its date and ends as that date's session closes.
 abbrev pub is_bar : Entries → Resolution → ℕ → ℕ → Bool
 is_bar hours Minute start end = end == start + 1
 is_bar hours Hour start end = (start % 60 == 0) && (end == start + 60)
-is_bar hours Daily start end = (start % 1440 == 0) && closes_at hours (start / 1440) end
+is_bar hours Daily start end = (minute_of_day start == 0) && closes_at hours (day_of start) end
 
 -- a bar that ends after the opening and starts before the closing
 abbrev pub meets : ℕ → ℕ → Interval → Bool
@@ -38,7 +39,7 @@ meets start end s = nat_lt s.opens end && nat_lt start s.closes
 
 -- a bar is in session where the day of its start has a session that the bar meets
 abbrev pub in_session : Entries → ℕ → ℕ → Bool
-in_session hours start end = option_map_or (meets start end) (session hours (start / 1440)) false
+in_session hours start end = option_map_or (meets start end) (session hours (day_of start)) false
 
 -- the grid of a resolution: all bars that would be in session
 abbrev pub is_grid_bar : Entries → Resolution → ℕ → ℕ → Bool
@@ -52,7 +53,7 @@ IsGridEnd hours resolution end = (start : ℕ) × (is_grid_bar hours resolution 
 abbrev pub bar_start : Resolution → ℕ → ℕ
 bar_start Minute end = end - 1
 bar_start Hour end = end - 60
-bar_start Daily end = 1440 * ((end - 1) / 1440)
+bar_start Daily end = midnight (day_of (end - 1))
 
 -- `IsGridEnd` as a test
 unfoldable pub is_grid_end : Entries → Resolution → ℕ → Bool

@@ -1,6 +1,7 @@
 -- What the bytes of an hours file say of a market, or the first fault in them.
-use Rattle.std.specs.Prelude.{ℕ, ◌≡◌, ⊤, ◌+◌, nat_lt, if◌then◌else◌, List, [], ◌∷◌, ◌++◌, codes, bytes_eq, is_some, option_and_then, option_to_list, option_map, Option, Some, None, Result, Ok, Err, Vec}
-use Rattle.std.specs.declared.alloc.Global.{Global}
+use Rattle.std.specs.Prelude.{ℕ, ◌≡◌, ⊤, nat_lt, if◌then◌else◌, List, [], ◌∷◌, ◌++◌, codes, bytes_eq, is_some, option_and_then, option_to_list, option_map, map, Option, Some, None, Result, Ok, Err}
+use Rattle.std.specs.Option.{ok_or}
+use Rattle.std.specs.List.{enumerate_from}
 use Rattle.std.specs.Str.{is_utf8}
 use Rattle.serde_json.specs.Data.{Data, Items, no_items, item, Members, no_members, member}
 use Rattle.serde_json.specs.Find.{get, as_str, as_array, as_object}
@@ -13,12 +14,48 @@ use Rattle.exchange_hours.specs.declared.fault.HoursFault.{HoursFault}
 use Rattle.exchange_hours.specs.declared.fault.HoursFault.TheVariants.{Json, NoEntry, DayForm, TimeForm, Holiday, EarlyClose as BadEarlyClose, NoMemory}
 use Rattle.exchange_hours.specs.Entries.{Entries}
 use Rattle.exchange_hours.specs.Times.{time_of, date_of, day_within}
+use Rattle.lean_fixed.specs.Calendar.{Civil}
 
--- two readings one after the other: the first fault, or all that they gave
+-- ---- readings
+
+-- one after the other: the first fault, or all that they gave
 abbrev pub both : {A : Type 0} → Result (List A) HoursFault → Result (List A) HoursFault → Result (List A) HoursFault
 both (Err fault) second = Err fault
 both (Ok xs) (Err fault) = Err fault
 both (Ok xs) (Ok ys) = Ok (xs ++ ys)
+
+-- of each of some things
+abbrev pub each : {X A : Type 0} → (X → Result (List A) HoursFault) → List X → Result (List A) HoursFault
+each read [] = Ok []
+each read (x ∷ xs) = both (read x) (each read xs)
+
+-- the same of a list that may not be one, which is this fault
+abbrev pub each_or : {X A : Type 0} → HoursFault → (X → Result (List A) HoursFault) → Option (List X) → Result (List A) HoursFault
+each_or fault read None = Err fault
+each_or fault read (Some xs) = each read xs
+
+-- the same of a member that is a list in some form; one that isn't there has nothing to read
+abbrev pub each_of : {X A : Type 0} → (Data → Option (List X)) → HoursFault → (X → Result (List A) HoursFault) → Option Data → Result (List A) HoursFault
+each_of form fault read None = Ok []
+each_of form fault read (Some d) = each_or fault read (form d)
+
+-- the values of a list, and the members of an object by the order of their names
+abbrev pub listed : Items → List Data
+listed no_items = []
+listed (item d ds) = d ∷ listed ds
+
+abbrev pub named : Members → List (List ℕ × Data)
+named no_members = []
+named (member name d ms) = (name, d) ∷ named ms
+
+abbrev pub list_of : Data → Option (List Data)
+list_of d = option_map listed (as_array d)
+
+abbrev pub object_of : Data → Option (List (List ℕ × Data))
+object_of d = option_map named (as_object d)
+
+abbrev pub text_at : List ℕ → Data → Option (List ℕ)
+text_at name d = option_and_then as_str (get name d)
 
 -- ---- the weekdays
 
@@ -34,83 +71,42 @@ abbrev pub segment_of : ℕ → Option (List ℕ) → Option (List ℕ) → Opti
 segment_of weekday (Some start) (Some end) (Some state) = timed weekday state (time_of start) (time_of end)
 segment_of weekday start end state = Err DayForm
 
-abbrev pub text_at : List ℕ → Data → Option (List ℕ)
-text_at name d = option_and_then as_str (get name d)
-
 abbrev pub segment : ℕ → Data → Result (List Segment) HoursFault
 segment weekday d = segment_of weekday (text_at (codes "start") d) (text_at (codes "end") d) (text_at (codes "state") d)
 
-abbrev pub segments : ℕ → Items → Result (List Segment) HoursFault
-segments weekday no_items = Ok []
-segments weekday (item d ds) = both (segment weekday d) (segments weekday ds)
-
-abbrev pub listed_segments : ℕ → Option Items → Result (List Segment) HoursFault
-listed_segments weekday None = Err DayForm
-listed_segments weekday (Some list) = segments weekday list
-
--- a weekday that isn't there has no segments
-abbrev pub day_segments : ℕ → Option Data → Result (List Segment) HoursFault
-day_segments weekday None = Ok []
-day_segments weekday (Some d) = listed_segments weekday (as_array d)
+abbrev pub segments : ℕ → Option Data → Result (List Segment) HoursFault
+segments weekday = each_of list_of DayForm (segment weekday)
 
 abbrev pub weekday_names : List (List ℕ)
 weekday_names =
     codes "sunday" ∷ codes "monday" ∷ codes "tuesday" ∷ codes "wednesday" ∷ codes "thursday" ∷ codes "friday"
     ∷ codes "saturday" ∷ []
 
--- the segments of the weekdays of these names, of which the first has this number
-unfoldable pub week_from : ℕ → List (List ℕ) → Data → Result (List Segment) HoursFault
-week_from weekday [] entry = Ok []
-week_from weekday (name ∷ names) entry =
-    both (day_segments weekday (get name entry)) (week_from (weekday + 1) names entry)
+-- the segments of all weekdays, which count from 0 for Sunday
+unfoldable pub week : Data → Result (List Segment) HoursFault
+week entry = each (λ day. segments day.0 (get day.1 entry)) (enumerate_from 0 weekday_names)
 
--- ---- the holidays
+-- ---- the closed days
 
-abbrev pub holiday_on : Option (Option ℕ) → Result (List ℕ) HoursFault
-holiday_on None = Err Holiday
-holiday_on (Some day) = Ok (option_to_list day)
+-- the day of a date; one outside the years from 1970 to 2199 has none
+abbrev pub days_of : Civil → List ℕ
+days_of date = option_to_list (day_within date)
 
-abbrev pub holiday : Option (List ℕ) → Result (List ℕ) HoursFault
-holiday None = Err Holiday
-holiday (Some text) = holiday_on (option_map day_within (date_of text))
+abbrev pub holiday : Data → Result (List ℕ) HoursFault
+holiday d = ok_or (option_map days_of (option_and_then date_of (as_str d))) Holiday
 
-abbrev pub holidays : Items → Result (List ℕ) HoursFault
-holidays no_items = Ok []
-holidays (item d ds) = both (holiday (as_str d)) (holidays ds)
+abbrev pub holidays : Option Data → Result (List ℕ) HoursFault
+holidays = each_of list_of Holiday holiday
 
-abbrev pub listed_holidays : Option Items → Result (List ℕ) HoursFault
-listed_holidays None = Err Holiday
-listed_holidays (Some list) = holidays list
+abbrev pub close_on : Option Civil → Option ℕ → Result (List EarlyClose) HoursFault
+close_on (Some date) (Some minute) = Ok (map (λ day. record { day = day; minute = minute }) (days_of date))
+close_on date minute = Err BadEarlyClose
 
-abbrev pub holidays_at : Option Data → Result (List ℕ) HoursFault
-holidays_at None = Ok []
-holidays_at (Some d) = listed_holidays (as_array d)
+abbrev pub early_close : List ℕ × Data → Result (List EarlyClose) HoursFault
+early_close (date, d) = close_on (date_of date) (option_and_then time_of (as_str d))
 
--- ---- the early closes
-
-abbrev pub close_on : Option ℕ → ℕ → List EarlyClose
-close_on None minute = []
-close_on (Some day) minute = record { day = day; minute = minute } ∷ []
-
-abbrev pub early_close_of : Option (Option ℕ) → Option ℕ → Result (List EarlyClose) HoursFault
-early_close_of (Some day) (Some minute) = Ok (close_on day minute)
-early_close_of day minute = Err BadEarlyClose
-
-abbrev pub early_close : List ℕ → Option (List ℕ) → Result (List EarlyClose) HoursFault
-early_close date None = Err BadEarlyClose
-early_close date (Some time) = early_close_of (option_map day_within (date_of date)) (time_of time)
-
-abbrev pub early_closes : Members → Result (List EarlyClose) HoursFault
-early_closes no_members = Ok []
-early_closes (member date d ms) = both (early_close date (as_str d)) (early_closes ms)
-
-abbrev pub listed_closes : Option Members → Result (List EarlyClose) HoursFault
-listed_closes None = Err BadEarlyClose
-listed_closes (Some members) = early_closes members
-
-abbrev pub early_closes_at : Option Data → Result (List EarlyClose) HoursFault
-early_closes_at None = Ok []
-early_closes_at (Some d) = listed_closes (as_object d)
+abbrev pub early_closes : Option Data → Result (List EarlyClose) HoursFault
+early_closes = each_of object_of BadEarlyClose early_close
 
 -- ---- the file
 
@@ -123,7 +119,7 @@ entries_of (Ok week) (Ok days) (Ok closes) = Ok (record { segments = week; holid
 abbrev pub hours_of_entry : Option Data → Result Entries HoursFault
 hours_of_entry None = Err NoEntry
 hours_of_entry (Some entry) =
-    entries_of (week_from 0 weekday_names entry) (holidays_at (get (codes "holidays") entry)) (early_closes_at (get (codes "earlyCloses") entry))
+    entries_of (week entry) (holidays (get (codes "holidays") entry)) (early_closes (get (codes "earlyCloses") entry))
 
 abbrev pub if_object : Data → Option Data
 if_object d = if is_some (as_object d) then Some d else None
@@ -164,16 +160,6 @@ IsAnswer want (Err fault) = IsFault want fault
 abbrev pub Leaves : {A : Type 0} → Result (List A) HoursFault → List A → Result ⊤ HoursFault → Type 0
 Leaves want items (Ok _) = want ≡ Ok items
 Leaves want items (Err fault) = IsFault want fault
-
--- the same of one that gives the list
-abbrev pub IsList : {A : Type 0} → Result (List A) HoursFault → Result (Vec A Global) HoursFault → Type 0
-IsList want (Ok list) = want ≡ Ok list.items
-IsList want (Err fault) = IsFault want fault
-
--- one segment, or the fault for which it was refused
-abbrev pub IsSegment : Result (List Segment) HoursFault → Result Segment HoursFault → Type 0
-IsSegment want (Ok s) = want ≡ Ok (s ∷ [])
-IsSegment want (Err fault) = want ≡ Err fault
 
 -- the tree of a file, or the fault that it has none
 abbrev pub IsTree : Option Data → Result Value HoursFault → Type 0

@@ -1,6 +1,6 @@
 -- The least of some moments.
 use Rattle.std.specs.Prelude.{ℕ, ◌<◌, ◌≤◌, ◌≡◌, min, ℤ, pos, negsuc, ◌≤ℤ◌, ◌<ℤ◌, Option, Some, None}
-use Rattle.exchange_hours.specs.Sessions.{last_moment}
+use Rattle.exchange_hours.specs.Sessions.{end_of_days}
 use Rattle.lean_fixed.specs.declared.time.Moment.{Moment}
 
 -- the least of some moments that lies past one moment and not past another, or nothing where there is none
@@ -18,5 +18,5 @@ IsNextFrom P after until (Some next) =
 
 -- the moment itself, or the nearest one from 1970 to 24:00 of the last day
 abbrev pub IsNearest : ℤ → ℕ → Type 0
-IsNearest (pos t) minute = minute ≡ min t last_moment
+IsNearest (pos t) minute = minute ≡ min t end_of_days
 IsNearest (negsuc _) minute = minute ≡ 0

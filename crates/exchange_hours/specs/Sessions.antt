@@ -4,6 +4,7 @@ use Rattle.std.specs.List.{list_any}
 use Rattle.std.specs.Option.{option_map_or}
 use Rattle.lean_fixed.specs.Calendar.{last_day, weekday}
 use Rattle.lean_fixed.specs.declared.time.Moment.{Moment}
+use Rattle.lean_fixed.specs.Moments.{midnight, day_of}
 use Rattle.exchange_hours.specs.declared.entries.Segment.{Segment}
 use Rattle.exchange_hours.specs.declared.entries.EarlyClose.{EarlyClose}
 use Rattle.exchange_hours.specs.declared.spans.Span.{Span}
@@ -11,8 +12,8 @@ use Rattle.exchange_hours.specs.declared.sessions.Session.{Session}
 use Rattle.exchange_hours.specs.Entries.{Entries}
 
 -- 24:00 of the last day
-abbrev pub last_moment : ℕ
-last_moment = 1440 * (last_day + 1)
+abbrev pub end_of_days : ℕ
+end_of_days = midnight (last_day + 1)
 
 -- a part of a day, made so wide that a segment lies in it
 abbrev pub widened : Option Span → Segment → Option Span
@@ -56,11 +57,11 @@ interval_from midnight span = record { opens = midnight + span.opens; closes = m
 
 -- the session of a day
 unfoldable pub session : Entries → ℕ → Option Interval
-session hours day = option_map (interval_from (1440 * day)) (span_on hours day)
+session hours day = option_map (interval_from (midnight day)) (span_on hours day)
 
 -- it opens before it closes, and both lie in the day
 abbrev pub LiesInDay : ℕ → Interval → Type 0
-LiesInDay day s = (1440 * day ≤ s.opens) × (s.opens < s.closes) × (s.closes ≤ 1440 * day + 1440)
+LiesInDay day s = (midnight day ≤ s.opens) × (s.opens < s.closes) × (s.closes ≤ midnight (day + 1))
 
 -- each session lies in its day
 abbrev pub LieInDays : Entries → Type 0
@@ -72,7 +73,7 @@ holds_moment t s = nat_le s.opens t && nat_lt t s.closes
 
 -- a moment is open where it lies in the session of its day
 abbrev pub is_open : Entries → ℕ → Bool
-is_open hours t = option_map_or (holds_moment t) (session hours (t / 1440)) false
+is_open hours t = option_map_or (holds_moment t) (session hours (day_of t)) false
 
 -- the same of a moment that may lie before 1970, when nothing is open
 abbrev pub is_open_at : Entries → ℤ → Bool

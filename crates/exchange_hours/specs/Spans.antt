@@ -2,12 +2,13 @@
 use Rattle.std.specs.Prelude.{ℕ, ◌+◌, ◌%◌, ◌<◌, ◌≤◌, ◌≡◌, Option, Some, None}
 use Rattle.lean_fixed.specs.declared.resolution.Resolution.{Resolution}
 use Rattle.lean_fixed.specs.declared.resolution.Resolution.TheVariants.{Minute, Hour, Daily}
+use Rattle.lean_fixed.specs.Moments.{minutes_per_day}
 use Rattle.exchange_hours.specs.declared.entries.Segment.{Segment}
 use Rattle.exchange_hours.specs.declared.spans.Span.{Span}
 
 -- opens before it closes, and closes by the end of the day
 abbrev pub IsSpan : Span → Type 0
-IsSpan span = (span.opens < span.closes) × (span.closes ≤ 1440)
+IsSpan span = (span.opens < span.closes) × (span.closes ≤ minutes_per_day)
 
 -- a bar of this resolution that is in session ends at this minute
 abbrev pub IsEnd : Span → Resolution → ℕ → Type 0
@@ -23,4 +24,4 @@ IsNextEnd span resolution minute (Some next) =
 
 -- starts before it ends, and ends by the end of the day
 abbrev pub IsInOrder : Segment → Type 0
-IsInOrder s = (s.start < s.end) × (s.end ≤ 1440)
+IsInOrder s = (s.start < s.end) × (s.end ≤ minutes_per_day)

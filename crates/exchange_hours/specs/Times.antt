@@ -1,7 +1,9 @@
 -- The times of day and the dates that an hours file spells.
-use Rattle.std.specs.Prelude.{ℕ, ◌+◌, ◌*◌, Bool, ◌&&◌, ◌||◌, ◌==◌, nat_lt, nat_le, if◌then◌else◌, List, length, take, drop, slice_index, codes, bytes_eq, Option, Some, None}
+use Rattle.std.specs.Prelude.{ℕ, ◌+◌, ◌*◌, Bool, ◌&&◌, ◌||◌, ◌==◌, nat_lt, nat_le, if◌then◌else◌, ℤ, pos, negsuc, List, length, take, drop, slice_index, codes, bytes_eq, Option, Some, None}
 use Rattle.std.specs.List.{before_first, after_first}
+use Rattle.jiff_core.specs.declared.civil.date.Date.{Date}
 use Rattle.lean_fixed.specs.Calendar.{Civil, is_civil, day_number, month_length}
+use Rattle.lean_fixed.specs.Moments.{minutes_per_day}
 use Rattle.lean_fixed.specs.Digits.{digits}
 
 -- the minutes since 00:00 of an hour from 00 to 23 and a minute from 00 to 59
@@ -21,7 +23,7 @@ without_seconds text = if bytes_eq (drop 5 text) (codes ":00") then take 5 text 
 -- HH:mm or HH:mm:00 from 00:00 to 24:00, or 1.00:00:00, which is 24:00 too
 abbrev pub time_of : List ℕ → Option ℕ
 time_of text =
-    if bytes_eq text (codes "1.00:00:00") || bytes_eq (without_seconds text) (codes "24:00") then Some 1440
+    if bytes_eq text (codes "1.00:00:00") || bytes_eq (without_seconds text) (codes "24:00") then Some minutes_per_day
     else hour_minute (without_seconds text)
 
 -- a date of the civil calendar, as far as years have four digits
@@ -41,6 +43,14 @@ date_of_parts month day year =
 
 abbrev pub is_slash : ℕ → Bool
 is_slash b = b == 47
+
+-- a date of the library, which may have a year before 0, as far as it is one of those above
+abbrev pub year_of : ℤ → ℕ
+year_of (pos year) = year
+year_of (negsuc _) = 0
+
+abbrev pub civil : Date → Civil
+civil date = record { year = year_of date.year; month = date.month; day = date.day }
 
 -- M/D/YYYY
 abbrev pub date_of : List ℕ → Option Civil

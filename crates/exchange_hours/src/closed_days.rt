@@ -1,33 +1,33 @@
 //! The days on which the exchange is closed, or closes early.
-ghost use Rattle.std.specs.Prelude.{Ok, option_map};
-ghost use Rattle.serde_json.specs.Find.{as_str};
+ghost use Rattle.std.specs.Prelude.{Ok, option_map, map};
 ghost use Rattle.serde_json.specs.View.{view, items_view, members_view};
-ghost use Rattle.exchange_hours.specs.HoursFile.{both, holiday, holidays, holidays_at, early_close, early_close_of, early_closes, early_closes_at, Leaves, IsList};
+ghost use Rattle.exchange_hours.specs.Times.{civil};
+ghost use Rattle.exchange_hours.specs.HoursFile.{both, each, listed, named, holiday, holidays, close_on, early_close, early_closes, Leaves};
 
-use crate::dates::read_date;
+use crate::dates::{day_within, read_date};
 use crate::entries::EarlyClose;
 use crate::fault::HoursFault;
 use crate::times::read_time;
+use jiff_core::civil::Date;
 use serde_json::{Map, Value};
-use std::alloc::Global;
 
-/// The days of the holidays, where they lie from 1970 to 2199.
-pub(crate) fn read_holidays(alloc: Global, found: Option<&Value>) -> Result<Vec<u32>, HoursFault>
-    ensures { IsList (holidays_at (option_map (λ v. view v.now) found.entry)) result }
+/// Appends the days of the holidays, where they lie from 1970 to 2199.
+pub(crate) fn read_holidays(found: Option<&Value>, out: &mut Vec<u32>) -> Result<(), HoursFault>
+    ensures { Leaves (both (Ok out.old.items) (holidays (option_map (λ v. view v.now) found.entry)))
+        out.new.items result }
 {
-    let mut holidays = Vec::new(alloc);
     let Some(value) = found else {
-        return Ok(holidays);
+        return Ok(());
     };
-    let Some(list) = value.as_array() else {
-        return Err(HoursFault::Holiday);
-    };
-    append_holidays(list, &mut holidays)?;
-    Ok(holidays)
+    match value.as_array() {
+        Some(list) => append_holidays(list, out),
+        None => Err(HoursFault::Holiday),
+    }
 }
 
 fn append_holidays(list: &Vec<Value>, out: &mut Vec<u32>) -> Result<(), HoursFault>
-    ensures { Leaves (both (Ok out.old.items) (holidays (items_view list.now.items))) out.new.items result }
+    ensures { Leaves (both (Ok out.old.items) (each holiday (listed (items_view list.now.items))))
+        out.new.items result }
 {
     for value in list {
         append_holiday(value, out)?;
@@ -36,41 +36,41 @@ fn append_holidays(list: &Vec<Value>, out: &mut Vec<u32>) -> Result<(), HoursFau
 }
 
 fn append_holiday(value: &Value, out: &mut Vec<u32>) -> Result<(), HoursFault>
-    ensures { Leaves (both (Ok out.old.items) (holiday (as_str (view value.now)))) out.new.items result }
+    ensures { Leaves (both (Ok out.old.items) (holiday (view value.now))) out.new.items result }
 {
     let Some(text) = value.as_str() else {
         return Err(HoursFault::Holiday);
     };
-    match read_date(text) {
-        Some(Some(day)) => {
-            out.push(day)?;
-            Ok(())
-        }
-        Some(None) => Ok(()),
-        None => Err(HoursFault::Holiday),
+    let Some(date) = read_date(text) else {
+        return Err(HoursFault::Holiday);
+    };
+    if let Some(day) = day_within(date) {
+        out.push(day)?;
+    }
+    Ok(())
+}
+
+/// Appends the early closes of the days from 1970 to 2199.
+pub(crate) fn read_early_closes(
+    found: Option<&Value>,
+    out: &mut Vec<EarlyClose>,
+) -> Result<(), HoursFault>
+    ensures { Leaves (both (Ok out.old.items) (early_closes (option_map (λ v. view v.now) found.entry)))
+        out.new.items result }
+{
+    let Some(value) = found else {
+        return Ok(());
+    };
+    match value.as_object() {
+        Some(members) => append_closes(members, out),
+        None => Err(HoursFault::EarlyClose),
     }
 }
 
-/// The early closes of the days from 1970 to 2199.
-pub(crate) fn read_early_closes(
-    alloc: Global,
-    found: Option<&Value>,
-) -> Result<Vec<EarlyClose>, HoursFault>
-    ensures { IsList (early_closes_at (option_map (λ v. view v.now) found.entry)) result }
-{
-    let mut closes = Vec::new(alloc);
-    let Some(value) = found else {
-        return Ok(closes);
-    };
-    let Some(members) = value.as_object() else {
-        return Err(HoursFault::EarlyClose);
-    };
-    append_closes(members, &mut closes)?;
-    Ok(closes)
-}
-
 fn append_closes(members: &Map<String, Value>, out: &mut Vec<EarlyClose>) -> Result<(), HoursFault>
-    ensures { Leaves (both (Ok out.old.items) (early_closes (members_view members.now.entries))) out.new.items result }
+    ensures { Leaves
+        (both (Ok out.old.items) (each early_close (named (members_view members.now.entries))))
+        out.new.items result }
 {
     for (date, time) in members {
         append_close(date.as_str(), time, out)?;
@@ -79,7 +79,8 @@ fn append_closes(members: &Map<String, Value>, out: &mut Vec<EarlyClose>) -> Res
 }
 
 fn append_close(date: &str, time: &Value, out: &mut Vec<EarlyClose>) -> Result<(), HoursFault>
-    ensures { Leaves (both (Ok out.old.items) (early_close date.now (as_str (view time.now)))) out.new.items result }
+    ensures { Leaves (both (Ok out.old.items) (early_close (date.now, view time.now)))
+        out.new.items result }
 {
     let Some(time) = time.as_str() else {
         return Err(HoursFault::EarlyClose);
@@ -88,16 +89,17 @@ fn append_close(date: &str, time: &Value, out: &mut Vec<EarlyClose>) -> Result<(
 }
 
 fn append_close_on(
-    day: Option<Option<u32>>,
+    date: Option<Date>,
     minute: Option<u16>,
     out: &mut Vec<EarlyClose>,
 ) -> Result<(), HoursFault>
-    ensures { Leaves (both (Ok out.old.items) (early_close_of day minute)) out.new.items result }
+    ensures { Leaves (both (Ok out.old.items) (close_on (option_map civil date) minute))
+        out.new.items result }
 {
-    let (Some(day), Some(minute)) = (day, minute) else {
+    let (Some(date), Some(minute)) = (date, minute) else {
         return Err(HoursFault::EarlyClose);
     };
-    if let Some(day) = day {
+    if let Some(day) = day_within(date) {
         out.push(EarlyClose { day, minute })?;
     }
     Ok(())

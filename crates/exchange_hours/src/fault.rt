@@ -1,7 +1,9 @@
 use std::alloc::{AllocError, AllocFailed};
 use thiserror::Error;
 
-/// Why an hours file was not read: the first fault of the file in the order of these variants, or want of memory.
+/// Why an hours file was not read: its first fault, or want of memory. A file is gone through in this order: the JSON
+/// text, the entry of the market, the weekdays from Sunday to Saturday with their segments one after the other, the
+/// holidays, and the early closes by the byte order of the texts of their dates.
 #[derive(Clone, Copy, Debug, PartialEq, Eq, Error)]
 pub enum HoursFault {
     /// The bytes are no JSON text.
@@ -22,6 +24,7 @@ pub enum HoursFault {
     /// The early closes are no object from dates to times of day.
     #[error("the early closes are no object from dates to times of day")]
     EarlyClose,
+    /// Memory that was asked for is not there.
     #[error("there is no memory")]
     NoMemory,
 }

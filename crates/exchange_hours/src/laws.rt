@@ -3,8 +3,9 @@ ghost use Rattle.std.specs.Prelude.{◌≡◌, ℕ, ◌<◌, ◌≤◌, ◌+◌,
 ghost use Rattle.lean_fixed.specs.Calendar.{last_day};
 ghost use Rattle.lean_fixed.specs.declared.resolution.Resolution.{Resolution};
 ghost use Rattle.lean_fixed.specs.declared.resolution.Resolution.TheVariants.{Daily};
+ghost use Rattle.lean_fixed.specs.Moments.{midnight};
 ghost use Rattle.exchange_hours.specs.Entries.{Entries};
-ghost use Rattle.exchange_hours.specs.Sessions.{session, LieInDays, last_moment};
+ghost use Rattle.exchange_hours.specs.Sessions.{session, LieInDays, end_of_days};
 ghost use Rattle.exchange_hours.specs.Grid.{HasOneBarAtEnd, IsClosing, is_closing, IsGridEnd, is_grid_end, is_bar, in_session, close_of};
 
 use crate::market_hours::Hours;
@@ -37,7 +38,7 @@ pub fn grid_ends()
     ensures not_told { (hours : Entries) (resolution : Resolution)
         → (t : ℕ) → ¬ IsGridEnd hours resolution t → is_grid_end hours resolution t ≡ false }
     ensures lie { (hours : Entries) (resolution : Resolution) → LieInDays hours
-        → (t : ℕ) → is_grid_end hours resolution t ≡ true → (0 < t) × (t ≤ last_moment) }
+        → (t : ℕ) → is_grid_end hours resolution t ≡ true → (0 < t) × (t ≤ end_of_days) }
 {}
 
 /// The closings of the sessions are the moments that pass the test `is_closing`, and the ends of
@@ -51,7 +52,7 @@ pub fn closings()
     ensures daily { (hours : Entries) → LieInDays hours
         → (t : ℕ) → is_closing hours t ≡ is_grid_end hours Daily t }
     ensures lie { (hours : Entries) → LieInDays hours
-        → (day t : ℕ) → close_of hours day ≡ Some t → (1440 * day < t) × (t ≤ 1440 * day + 1440) }
+        → (day t : ℕ) → close_of hours day ≡ Some t → (midnight day < t) × (t ≤ midnight (day + 1)) }
     ensures rise { (hours : Entries) → LieInDays hours → (day later s t : ℕ) → day < later
         → close_of hours day ≡ Some s → close_of hours later ≡ Some t → s < t }
 {}

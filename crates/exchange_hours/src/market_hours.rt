@@ -1,4 +1,7 @@
 ghost use Rattle.std.specs.Prelude.{◌≡◌, Some, ◌+◌, ◌*◌, ◌<◌, ◌≤◌, max, pos, ◌≤ℤ◌, unsigned_abs, option_map, IfSome};
+ghost use Rattle.lean_fixed.specs.Calendar.{last_day};
+ghost use Rattle.lean_fixed.specs.Moments.{minutes_per_day, midnight};
+ghost use Rattle.lean_fixed.specs.Ranges.{IsDay};
 ghost use Rattle.exchange_hours.specs.Sessions.{moment, span_on, session, session_value, is_open_at, LieInDays};
 ghost use Rattle.exchange_hours.specs.Grid.{IsGridEnd, IsClosing};
 ghost use Rattle.serde_json.specs.View.{view};
@@ -13,13 +16,14 @@ use crate::segments::read_week;
 use crate::sessions::Session;
 use crate::spans::Span;
 use crate::table::spans_of_days;
+use lean_fixed::ranges::{LAST_DAY, MINUTES_PER_DAY};
 use lean_fixed::{Day, Moment, Resolution};
 use serde_json::Value;
 use std::alloc::Global;
 use std::marker::Model;
 
-// 24:00 of the last day, 2199-12-31.
-const LAST_MOMENT: u32 = 120_968_640;
+// 24:00 of the last day.
+const END_OF_DAYS: u32 = MINUTES_PER_DAY * (LAST_DAY as u32 + 1);
 
 // The name of the entry of US equities.
 const US_EQUITIES: &str = "Equity-usa-[*]";
@@ -48,8 +52,8 @@ impl Model for Hours {
 }
 
 impl Hours {
-    /// The hours of US equities by the bytes of an hours file, or the first fault of the file in the order of `HoursFault`.
-    /// The form of the file is that of LEAN's market hours database.
+    /// The hours of US equities by the bytes of an hours file, or the first fault of the file, in the order that
+    /// `HoursFault` tells. The form of the file is that of LEAN's market hours database.
     pub fn read(alloc: Global, bytes: &[u8]) -> Result<Hours, HoursFault>
         ensures { IsAnswer (hours_of us_equities bytes.now) result }
     {
@@ -63,9 +67,12 @@ impl Hours {
     fn read_entry(alloc: Global, entry: &Value) -> Result<Hours, HoursFault>
         ensures { IsAnswer (hours_of_entry (Some (view entry.now))) result }
     {
-        let segments = read_week(alloc, entry)?;
-        let holidays = read_holidays(alloc, entry.get("holidays"))?;
-        let early_closes = read_early_closes(alloc, entry.get("earlyCloses"))?;
+        let mut segments = Vec::new(alloc);
+        read_week(entry, &mut segments)?;
+        let mut holidays = Vec::new(alloc);
+        read_holidays(entry.get("holidays"), &mut holidays)?;
+        let mut early_closes = Vec::new(alloc);
+        read_early_closes(entry.get("earlyCloses"), &mut early_closes)?;
         let spans = spans_of_days(alloc, &segments, &holidays, &early_closes)?;
         Ok(Hours {
             segments,
@@ -78,14 +85,13 @@ impl Hours {
     #[tactic(auto, unfolding(crate::specs::Sessions::session))]
     /// The session of a day, or `None` exactly where the day has none.
     pub fn session(&self, day: Day) -> Option<Session>
-        requires from { pos 0 ≤ℤ day.0 }
-        requires to { day.0 ≤ℤ pos 84005 }
+        requires { IsDay day.0 }
         ensures { result ≡ option_map session_value (session self.now (unsigned_abs day.0)) }
     {
         let day = day.0 as u32;
         match self.span_on(day) {
             Some(span) => {
-                let midnight = 1440 * day;
+                let midnight = MINUTES_PER_DAY * day;
                 Some(Session {
                     opens: moment_at(midnight + span.opens as u32),
                     closes: moment_at(midnight + span.closes as u32),
@@ -100,12 +106,11 @@ impl Hours {
     pub fn is_open(&self, at: Moment) -> bool
         ensures { result ≡ is_open_at self.now at.0 }
     {
-        if at.0 < 0 || at.0 >= LAST_MOMENT as i64 {
-            return false;
-        }
-        let minute = at.0 as u32;
-        match self.span_on(minute / 1440) {
-            Some(span) => span.opens as u32 <= minute % 1440 && minute % 1440 < span.closes as u32,
+        match at.day() {
+            Some(day) => match self.session(day) {
+                Some(session) => session.opens <= at && at < session.closes,
+                None => false,
+            },
             None => false,
         }
     }
@@ -142,7 +147,7 @@ impl Hours {
         ensures { IsNextFrom (IsGridEnd self.now resolution) after until result }
     {
         let days = self.spans.len() as u32;
-        for day in after / 1440..days.min(until.div_ceil(1440)) {
+        for day in after / MINUTES_PER_DAY..days.min(until.div_ceil(MINUTES_PER_DAY)) {
             if let Some(end) = self.end_on(resolution, day, after) {
                 return if end <= until { Some(end) } else { None };
             }
@@ -152,11 +157,11 @@ impl Hours {
 
     // The least grid end past a moment that lies after 00:00 of a day and not after its 24:00.
     fn end_on(&self, resolution: Resolution, day: u32, after: u32) -> Option<u32>
-        requires { day ≤ 84005 }
-        ensures { IsNextFrom (IsGridEnd self.now resolution) (max after (1440 * day)) (1440 * day + 1440) result }
+        requires { day ≤ last_day }
+        ensures { IsNextFrom (IsGridEnd self.now resolution) (max after (midnight day)) (midnight day + minutes_per_day) result }
     {
         self.sessions_lie();
-        let midnight = 1440 * day;
+        let midnight = MINUTES_PER_DAY * day;
         let span = self.span_on(day)?;
         let minute = span.end_past(resolution, after.saturating_sub(midnight))?;
         Some(midnight + minute)
@@ -164,21 +169,21 @@ impl Hours {
 
     // The hours of a day, as minutes of the day.
     fn span_on(&self, day: u32) -> Option<Span>
-        requires { day ≤ 84005 }
+        requires { day ≤ last_day }
         ensures { result ≡ span_on self.now day }
     {
         self.spans[day as usize]
     }
 }
 
-// The moment, or of those from 1970-01-01 00:00 to `LAST_MOMENT` the one nearest to it.
+// The moment, or of those from 1970-01-01 00:00 to the end of days the one nearest to it.
 fn minute_of(at: Moment) -> u32
     ensures { IsNearest at.0 result }
 {
     if at.0 < 0 {
         0
-    } else if at.0 > LAST_MOMENT as i64 {
-        LAST_MOMENT
+    } else if at.0 > END_OF_DAYS as i64 {
+        END_OF_DAYS
     } else {
         at.0 as u32
     }

@@ -1,25 +1,22 @@
 //! The segments of the weekdays.
-ghost use Rattle.std.specs.Prelude.{◌≡◌, ◌<◌, slice_index_or, option_map, ◌∷◌, [], Ok, Result, Err};
-ghost use Rattle.serde_json.specs.Find.{get};
+ghost use Rattle.std.specs.Prelude.{◌≡◌, ◌<◌, slice_index_or, option_map, [], Ok};
 ghost use Rattle.serde_json.specs.View.{view, items_view};
-ghost use Rattle.exchange_hours.specs.HoursFile.{both, segment, segments, day_segments, week_from, weekday_names, Leaves, IsList, IsSegment};
+ghost use Rattle.exchange_hours.specs.HoursFile.{both, each, listed, timed, segment, segments, week, weekday_names, Leaves};
 
 use crate::entries::Segment;
 use crate::fault::HoursFault;
 use crate::json::text_at;
 use crate::times::read_time;
 use serde_json::Value;
-use std::alloc::Global;
 
-/// The segments of all weekdays, from Sunday to Saturday.
-pub(crate) fn read_week(alloc: Global, entry: &Value) -> Result<Vec<Segment>, HoursFault>
-    ensures { IsList (week_from 0 weekday_names (view entry.now)) result }
+/// Appends the segments of all weekdays, from Sunday to Saturday.
+pub(crate) fn read_week(entry: &Value, out: &mut Vec<Segment>) -> Result<(), HoursFault>
+    ensures { Leaves (both (Ok out.old.items) (week (view entry.now))) out.new.items result }
 {
-    let mut segments = Vec::new(alloc);
     for weekday in 0..7 {
-        append_weekday(weekday, entry.get(weekday_name(weekday)), &mut segments)?;
+        read_weekday(weekday, entry.get(weekday_name(weekday)), out)?;
     }
-    Ok(segments)
+    Ok(())
 }
 
 /// The name of a weekday in an hours file.
@@ -39,12 +36,14 @@ fn weekday_name(weekday: u8) -> &'static str
 }
 
 /// Appends the segments of a weekday, of which there are none where it is not there.
-fn append_weekday(
+fn read_weekday(
     weekday: u8,
     found: Option<&Value>,
     out: &mut Vec<Segment>,
 ) -> Result<(), HoursFault>
-    ensures { Leaves (both (Ok out.old.items) (day_segments weekday (option_map (λ v. view v.now) found.entry))) out.new.items result }
+    ensures { Leaves
+        (both (Ok out.old.items) (segments weekday (option_map (λ v. view v.now) found.entry)))
+        out.new.items result }
 {
     let Some(value) = found else {
         return Ok(());
@@ -55,20 +54,20 @@ fn append_weekday(
     }
 }
 
-/// Appends the segments of a list.
 fn append_segments(weekday: u8, list: &Vec<Value>, out: &mut Vec<Segment>) -> Result<(), HoursFault>
-    ensures { Leaves (both (Ok out.old.items) (segments weekday (items_view list.now.items))) out.new.items result }
+    ensures { Leaves
+        (both (Ok out.old.items) (each (segment weekday) (listed (items_view list.now.items))))
+        out.new.items result }
 {
     for value in list {
-        let segment = read_segment(weekday, value)?;
-        out.push(segment)?;
+        append_segment(weekday, value, out)?;
     }
     Ok(())
 }
 
-/// A segment of a weekday.
-fn read_segment(weekday: u8, value: &Value) -> Result<Segment, HoursFault>
-    ensures { IsSegment (segment weekday (view value.now)) result }
+fn append_segment(weekday: u8, value: &Value, out: &mut Vec<Segment>) -> Result<(), HoursFault>
+    ensures { Leaves (both (Ok out.old.items) (segment weekday (view value.now)))
+        out.new.items result }
 {
     let (Some(start), Some(end), Some(state)) = (
         text_at(value, "start"),
@@ -77,17 +76,36 @@ fn read_segment(weekday: u8, value: &Value) -> Result<Segment, HoursFault>
     ) else {
         return Err(HoursFault::DayForm);
     };
-    let (Some(start), Some(end)) = (read_time(start.as_bytes()), read_time(end.as_bytes())) else {
+    append_timed(
+        weekday,
+        state,
+        read_time(start.as_bytes()),
+        read_time(end.as_bytes()),
+        out,
+    )
+}
+
+fn append_timed(
+    weekday: u8,
+    state: &str,
+    start: Option<u16>,
+    end: Option<u16>,
+    out: &mut Vec<Segment>,
+) -> Result<(), HoursFault>
+    ensures { Leaves (both (Ok out.old.items) (timed weekday state.now start end)) out.new.items result }
+{
+    let (Some(start), Some(end)) = (start, end) else {
         return Err(HoursFault::TimeForm);
     };
-    if start < end {
-        Ok(Segment {
-            weekday,
-            is_market: state == "market",
-            start,
-            end,
-        })
-    } else {
-        Err(HoursFault::DayForm)
+    if start >= end {
+        return Err(HoursFault::DayForm);
     }
+    let is_market = state == "market";
+    out.push(Segment {
+        weekday,
+        is_market,
+        start,
+        end,
+    })?;
+    Ok(())
 }

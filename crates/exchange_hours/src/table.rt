@@ -1,16 +1,17 @@
 //! The hours of each day, in a table by its number.
-ghost use Rattle.std.specs.Prelude.{◌≡◌, ℕ, ◌<◌, ◌==◌, if◌then◌else◌, length, slice_index_or, Some, None, IfErr, IfOk};
+ghost use Rattle.std.specs.Prelude.{◌≡◌, ℕ, ◌+◌, ◌<◌, ◌==◌, if◌then◌else◌, length, slice_index_or, Some, None, IfErr, IfOk};
 ghost use Rattle.std.specs.List.{list_any};
-ghost use Rattle.lean_fixed.specs.Calendar.{weekday as day_of_week};
+ghost use Rattle.lean_fixed.specs.Calendar.{last_day, weekday as day_of_week};
 ghost use Rattle.exchange_hours.specs.Sessions.{widened, usual_span, early_close, shortened, span_on};
 ghost use Rattle.exchange_hours.specs.declared.fault.HoursFault.TheVariants.{NoMemory};
 
 use crate::entries::{EarlyClose, Segment};
 use crate::fault::HoursFault;
 use crate::spans::Span;
+use lean_fixed::ranges::LAST_DAY;
 use std::alloc::Global;
 
-const DAYS: usize = 84_006;
+const DAYS: usize = LAST_DAY as usize + 1;
 
 /// The hours of each day from 1970-01-01 to 2199-12-31.
 pub(crate) fn spans_of_days(
@@ -19,7 +20,7 @@ pub(crate) fn spans_of_days(
     holidays: &[u32],
     early_closes: &[EarlyClose],
 ) -> Result<Vec<Option<Span>>, HoursFault>
-    ensures whole { IfOk result (λ table. length table.items ≡ 84006) }
+    ensures whole { IfOk result (λ table. length table.items ≡ last_day + 1) }
     ensures each { IfOk result (λ table. (day : ℕ) → slice_index_or table.items day None
         ≡ span_on (record { segments = segments.now; holidays = holidays.now; early_closes = early_closes.now }) day) }
     ensures refused { IfErr result (λ fault. fault ≡ NoMemory) }
@@ -32,8 +33,8 @@ pub(crate) fn spans_of_days(
 
 /// The usual hours of each day's weekday.
 fn usual_spans(alloc: Global, segments: &[Segment]) -> Result<Vec<Option<Span>>, HoursFault>
-    ensures whole { IfOk result (λ table. length table.items ≡ 84006) }
-    ensures each { IfOk result (λ table. (day : ℕ) → day < 84006 → slice_index_or table.items day None ≡ usual_span segments.now (day_of_week day)) }
+    ensures whole { IfOk result (λ table. length table.items ≡ last_day + 1) }
+    ensures each { IfOk result (λ table. (day : ℕ) → day < last_day + 1 → slice_index_or table.items day None ≡ usual_span segments.now (day_of_week day)) }
     ensures refused { IfErr result (λ fault. fault ≡ NoMemory) }
 {
     let week = usual_week(segments);

@@ -1,10 +1,10 @@
--- What is read and the weekdays that are left are together the whole week.
-use Rattle.std.proofs.Common.{◌≡◌, drop, Ok}
+-- What is appended and the weekdays that are left are together the whole week.
+use Rattle.std.proofs.Common.{◌≡◌, Ok}
 use Rattle.serde_json.specs.View.{view}
-use Rattle.exchange_hours.specs.HoursFile.{both, week_from, weekday_names}
+use Rattle.exchange_hours.specs.HoursFile.{both, week}
+use Rattle.exchange_hours.proofs.ReadingLemmas.{week_left}
 use Rattle.exchange_hours.proofs.segments.read_week.Given as goal
 
 abbrev pub invariant-loop-weekday : goal.invariant-loop-weekday
 invariant-loop-weekday l =
-    both (Ok l.segments.items) (week_from l.weekday (drop l.weekday weekday_names) (view l.entry))
-    ≡ week_from 0 weekday_names (view l.entry)
+    both (Ok l.out.items) (week_left l.weekday (view l.entry)) ≡ both (Ok l.fn.out.items) (week (view l.entry))

@@ -3,7 +3,7 @@ use Rattle.std.specs.Str.{is_utf8, chars}
 use Rattle.std.specs.Char.{encode_utf8}
 use Rattle.serde_json.proofs.OnLiterals.{serde_json_on_literals}
 use Rattle.jiff_core.specs.Calendar.{days_from_civil, day_count, days_of_years, days_of_months}
-use Rattle.exchange_hours.specs.HoursFile.{week_from}
+use Rattle.exchange_hours.specs.HoursFile.{week}
 use Rattle.exchange_hours.proofs.worked.files.Goals as goal
 
 pub returns-clause-no_json : goal.returns-clause-no_json
@@ -15,5 +15,5 @@ unfolding is_utf8 chars encode_utf8 serde_json_on_literals
 returns-clause-no_entry c = refl
 
 pub returns-clause-monday : goal.returns-clause-monday
-unfolding is_utf8 chars encode_utf8 serde_json_on_literals week_from days_from_civil day_count days_of_years days_of_months
+unfolding is_utf8 chars encode_utf8 serde_json_on_literals week days_from_civil day_count days_of_years days_of_months
 returns-clause-monday c = refl
