@@ -1,2 +1,3 @@
 pub mod RawLemmas
 pub mod BufferLemmas
+pub mod LawLemmas

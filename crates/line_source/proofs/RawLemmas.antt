@@ -9,7 +9,8 @@ use Rattle.std.proofs.lemmas.Bool.Decides.{nat_tests}
 use Rattle.memchr.specs.Find.{IsFirstByte, is_byte}
 use Rattle.lean_fixed.specs.Fields.{begin_first}
 use Rattle.line_source.specs.Lines.{raw_lines, without_cr}
-use Rattle.line_source.specs.Raw.{has_no_lf, FindsLf, GivesRaw}
+use Rattle.line_source.specs.Raw.{FindsLf, GivesRaw}
+use Rattle.line_source.specs.Written.{has_no_lf}
 use Rattle.line_source.specs.declared.raw.Raw.{Raw}
 use Rattle.lean_io.specs.Told.{Reads}
 

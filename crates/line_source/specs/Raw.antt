@@ -1,13 +1,9 @@
 -- What stands before an LF, as it is found piece by piece.
-use Rattle.std.specs.Prelude.{◌≡◌, ℕ, ◌+◌, ◌<◌, ◌==◌, Bool, true, not, List, [], ◌∷◌, length, take, drop, Option, None, Some}
-use Rattle.std.specs.List.{list_all}
+use Rattle.std.specs.Prelude.{◌≡◌, ℕ, ◌+◌, ◌<◌, true, List, [], ◌∷◌, length, take, drop, Option, None, Some}
 use Rattle.line_source.specs.declared.raw.Raw.{Raw}
 use Rattle.line_source.specs.declared.raw.Raw.TheVariants.{Line, Long, End}
 use Rattle.line_source.specs.Lines.{raw_lines}
-
--- none of some bytes is an LF
-abbrev pub has_no_lf : List ℕ → Bool
-has_no_lf bytes = list_all (λ b. not (b == 10)) bytes
+use Rattle.line_source.specs.Written.{has_no_lf}
 
 -- the first LF of some bytes stands at a place, or there is none
 abbrev pub FindsLf : List ℕ → Option ℕ → Type 0

@@ -8,7 +8,8 @@ use lean_io::{Failed, Hand};
 impl<H: Hand> Lines<H> {
     ghost use Rattle.std.specs.Prelude.{◌≡◌, ◌+◌, ◌<◌, ◌≤◌, ◌++◌, true, false, Some, [], length, take, drop, IfOk, OnOk, OnErr};
     ghost use Rattle.lean_io.specs.Told.{Files, Rose};
-    ghost use Rattle.line_source.specs.Raw.{GivesRaw, has_no_lf};
+    ghost use Rattle.line_source.specs.Raw.{GivesRaw};
+    ghost use Rattle.line_source.specs.Written.{has_no_lf};
     ghost use Rattle.line_source.specs.Reader.{hand_of, number_of, text_of, ahead_of, unread};
 
     /// Takes what stands before the next LF, or before the file's end. `Failed`: a read failed.

@@ -4,10 +4,12 @@
 
 mod buffer;
 mod bytes;
+pub mod laws;
 mod line;
 mod lines;
 mod raw;
 mod reader;
+mod worked;
 
 pub use line::Line;
 pub use reader::Lines;

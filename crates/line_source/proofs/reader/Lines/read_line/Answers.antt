@@ -1,5 +1,6 @@
 use Rattle.std.proofs.Common.{◌≡◌, ◌<◌, ◌≤◌, length, take, drop, arith, length-drop, ◌∙◌, Some, None, subst, true, rules}
-use Rattle.line_source.specs.Raw.{FindsLf, has_no_lf}
+use Rattle.line_source.specs.Raw.{FindsLf}
+use Rattle.line_source.specs.Written.{has_no_lf}
 use Rattle.line_source.specs.Reader.{ahead_of}
 use Rattle.line_source.proofs.RawLemmas.{at-end, found-read, none-read, none-ahead}
 use Rattle.line_source.proofs.BufferLemmas.{ahead-kept, ahead-grown, length-ahead, piece}

@@ -1,6 +1,6 @@
 use Rattle.std.proofs.Common.{◌-◌, ◌≡◌, ◌≤◌, true, Some}
 use Rattle.lean_io.specs.Told.{Files}
-use Rattle.line_source.specs.Raw.{has_no_lf}
+use Rattle.line_source.specs.Written.{has_no_lf}
 use Rattle.line_source.specs.Reader.{ahead_of, unread}
 use Rattle.line_source.proofs.reader.Lines.read_line.Given as goal
 
