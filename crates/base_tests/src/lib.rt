@@ -12,4 +12,6 @@ mod io;
 #[cfg(test)]
 mod items;
 #[cfg(test)]
+mod lines;
+#[cfg(test)]
 mod paths;
