@@ -2,7 +2,7 @@ use lean_fixed::{Moment, Price, Shares};
 
 /// A row of a file of equity bars, after the columns of LEAN's US equity data: the trades from `start` on, for a minute, an
 /// hour or a day.
-#[derive(Clone, Copy, Debug, PartialEq, Eq, Hash)]
+#[derive(Clone, Copy, Debug, PartialEq, Eq)]
 pub struct Row {
     /// The moment at which the bar starts.
     pub start: Moment,

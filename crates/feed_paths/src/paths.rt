@@ -6,7 +6,7 @@ ghost use Rattle.lean_fixed.specs.declared.resolution.Resolution.TheVariants.{Mi
 ghost use Rattle.lean_items.specs.declared.feed_key.FeedKind.TheVariants.{Coarse, Equity};
 ghost use Rattle.feed_paths.specs.Paths.{path, path_of, lower, lower_case};
 
-use lean_fixed::laws::day_reads_back;
+use lean_fixed::laws::{day_reads_back, symbol_is_short};
 use lean_fixed::{Day, NoMemory, Resolution, Symbol};
 use lean_items::{FeedKey, FeedKind};
 
@@ -117,6 +117,7 @@ fn push_lower(symbol: &Symbol, out: &mut String)
     ensures capacity { string_capacity out.old ≤ string_capacity out.new }
     ensures short { length symbol.now ≤ 12 }
 {
+    symbol_is_short(*symbol);
     for byte in symbol.bytes() {
         out.push(lower_case(*byte)).unwrap();
     }
@@ -139,6 +140,7 @@ fn push_day(day: u32, out: &mut String)
     ensures capacity { string_capacity out.old ≤ string_capacity out.new }
     ensures eight { length (day_text day) ≡ 8 }
 {
+    day_reads_back();
     for digit in Day(day as i32).digits() {
         out.push(digit as char).unwrap();
     }
