@@ -2,6 +2,8 @@
 #![tactic(auto)]
 
 #[cfg(test)]
+mod coarse;
+#[cfg(test)]
 mod equity;
 #[cfg(test)]
 mod fixed;
