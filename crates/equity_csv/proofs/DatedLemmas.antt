@@ -3,6 +3,7 @@ use Rattle.std.proofs.Common.{◌≡◌, ℕ, ◌+◌, ◌*◌, ◌==◌, Bool, 
 use Rattle.std.specs.List.{list_all}
 use Rattle.std.proofs.lemmas.Bool.Decides.{nat_tests}
 use Rattle.lean_fixed.specs.Digits.{is_digit, value_of}
+use Rattle.lean_fixed.specs.Moments.{midnight}
 use Rattle.lean_fixed.specs.Calendar.{day_of_digits, is_civil, spelled, day_number}
 use Rattle.lean_fixed.specs.declared.resolution.Resolution.{Resolution}
 use Rattle.lean_fixed.specs.declared.time.Day.{Day}
@@ -76,7 +77,7 @@ list_all-append p (x ∷ a) b h k =
     let there : list_all p a ≡ true = grind (arith, nat_tests) in
     rw here (list_all-append p a b there k)
 
-no_day : (hour : Option ℕ) → start_of None hour ≡ None
+pub no_day : (hour : Option ℕ) → start_of None hour ≡ None
 no_day None = refl
 no_day (Some h) = refl
 
@@ -127,5 +128,5 @@ pub day-read : (found : Option ℕ) (day : Day) → Some day ≡ option_map day_
 day-read None day e = cc
 day-read (Some n) day e = let same : day ≡ day_at n = cc in ap (λ (d : Day). Some (unsigned_abs d.0)) (sym same)
 
-pub dated-both : (resolution : Resolution) (day hour : Option ℕ) (d : Day) (h : ℕ) → Some d ≡ option_map day_at day → Some h ≡ hour → has_hour resolution h ≡ true → Some (unsigned_abs d.0 * 1440 + h * 60) ≡ start_of day (kept_if (has_hour resolution) hour)
+pub dated-both : (resolution : Resolution) (day hour : Option ℕ) (d : Day) (h : ℕ) → Some d ≡ option_map day_at day → Some h ≡ hour → has_hour resolution h ≡ true → Some (midnight (unsigned_abs d.0) + h * 60) ≡ start_of day (kept_if (has_hour resolution) hour)
 dated-both r day hour d h e f k = rw (day-read day d e) (rw (← f) (rw k))

@@ -7,3 +7,5 @@ pub mod DatedLemmas
 pub mod TimeLemmas
 pub mod AppendLemmas
 pub mod ReadBackLemmas
+pub mod SaidLemmas
+pub mod LengthLemmas

@@ -7,6 +7,8 @@ use Rattle.std.proofs.lemmas.Int.{ints}
 use Rattle.lean_fixed.specs.Digits.{is_digit, digits, value_of}
 use Rattle.lean_fixed.specs.Fields.{fields, begin_first, plain_number}
 use Rattle.lean_fixed.specs.Calendar.{day_of_digits, last_day}
+use Rattle.lean_fixed.specs.Moments.{minutes_per_day, midnight}
+use Rattle.lean_fixed.specs.Ranges.{most_price, most_volume}
 use Rattle.lean_fixed.specs.Printed.{two_digits, day_text}
 use Rattle.lean_fixed.specs.declared.resolution.Resolution.{Resolution}
 use Rattle.lean_items.specs.declared.reason.Reason.TheVariants.{Range}
@@ -84,28 +86,28 @@ six_fields t o h l c v p q r s u w =
     ∙ ap (λ x. l ∷ x) (fields-append c v u
     ∙ ap (λ x. c ∷ x) (fields-alone v w)))))
 
-price-decimal : NumbersReadBack → (n : ℕ) → 1 ≤ n → n ≤ 10 ^ 10 → price_in (decimal n) ≡ Some n
+price-decimal : NumbersReadBack → (n : ℕ) → 1 ≤ n → n ≤ most_price → price_in (decimal n) ≡ Some n
 price-decimal numbers n low high =
     let a : nat_le 1 n ≡ true = grind (arith, nat_tests) in
-    let b : nat_le n (10 ^ 10) ≡ true = grind (arith, nat_tests) in
-    ap (kept_if (λ m. nat_le 1 m && nat_le m (10 ^ 10))) (plain-decimal numbers n (omega arith)) ∙ rw (a, b)
+    let b : nat_le n most_price ≡ true = grind (arith, nat_tests) in
+    ap (kept_if (λ m. nat_le 1 m && nat_le m most_price)) (plain-decimal numbers n (omega arith)) ∙ rw (a, b)
 
-volume-decimal : NumbersReadBack → (n : ℕ) → n ≤ 10 ^ 15 → volume_in (decimal n) ≡ Some n
+volume-decimal : NumbersReadBack → (n : ℕ) → n ≤ most_volume → volume_in (decimal n) ≡ Some n
 volume-decimal numbers n high =
-    let b : nat_le n (10 ^ 15) ≡ true = grind (arith, nat_tests) in
-    ap (kept_if (λ m. nat_le m (10 ^ 15))) (plain-decimal numbers n (omega arith)) ∙ rw b
+    let b : nat_le n most_volume ≡ true = grind (arith, nat_tests) in
+    ap (kept_if (λ m. nat_le m most_volume)) (plain-decimal numbers n (omega arith)) ∙ rw b
 
 -- the values of a row that is valid, as natural numbers
 pub record IsValued (o h l c v : ℕ) : Type 0 where
   pub o_low : 1 ≤ o
-  pub o_high : o ≤ 10 ^ 10
+  pub o_high : o ≤ most_price
   pub h_low : 1 ≤ h
-  pub h_high : h ≤ 10 ^ 10
+  pub h_high : h ≤ most_price
   pub l_low : 1 ≤ l
-  pub l_high : l ≤ 10 ^ 10
+  pub l_high : l ≤ most_price
   pub c_low : 1 ≤ c
-  pub c_high : c ≤ 10 ^ 10
-  pub v_high : v ≤ 10 ^ 15
+  pub c_high : c ≤ most_price
+  pub v_high : v ≤ most_volume
   pub l_o : l ≤ o
   pub o_h : o ≤ h
   pub l_c : l ≤ c
@@ -136,14 +138,14 @@ values-read numbers time t s o h l c v plain e i =
     ∙ ap (λ x. if x then Ok (row_of s o h l c v) else Err Range) (ranged o h l c v i)
 
 -- the two forms of a time
-pub minute-read : NumbersReadBack → (day m : ℕ) → m < 1440 → minute_start day (decimal (m * 60000)) ≡ Some (day * 1440 + m)
+pub minute-read : NumbersReadBack → (day m : ℕ) → m < 1440 → minute_start day (decimal (m * 60000)) ≡ Some (midnight day + m)
 minute-read numbers day m h =
-    let below : nat_lt (m * 60000) 86400000 ≡ true = grind (arith, nat_tests) in
+    let below : nat_lt (m * 60000) (minutes_per_day * 60000) ≡ true = grind (arith, nat_tests) in
     let rest : m * 60000 % 60000 ≡ 0 = omega arith in
     let whole : (m * 60000 % 60000 == 0) ≡ true = grind (arith, nat_tests) in
     let back : m * 60000 / 60000 ≡ m = omega arith in
-    ap (λ x. option_map (λ minute. day * 1440 + minute) (option_map (λ ms. ms / 60000) (kept_if (λ ms. nat_lt ms 86400000 && (ms % 60000 == 0)) x))) (plain-decimal numbers (m * 60000) (omega arith))
-    ∙ rw (below, whole) (ap (λ x. Some (day * 1440 + x)) back)
+    ap (λ x. option_map (λ minute. midnight day + minute) (option_map (λ ms. ms / 60000) (kept_if (λ ms. nat_lt ms (minutes_per_day * 60000) && (ms % 60000 == 0)) x))) (plain-decimal numbers (m * 60000) (omega arith))
+    ∙ rw (below, whole) (ap (λ x. Some (midnight day + x)) back)
 
 tens_digit : (h : ℕ) → is_digit (48 + h / 10 % 10) ≡ true
 tens_digit h = grind (arith, nat_tests)
@@ -159,7 +161,7 @@ hour-read h small =
     let below : nat_le h 23 ≡ true = grind (arith, nat_tests) in
     rw (tens_digit h, ones_digit h) (ap (λ x. kept_if (λ hour. nat_le hour 23) (Some x)) (hour-value h small) ∙ rw below)
 
-pub dated-read : (resolution : Resolution) (text : List ℕ) (day hour : ℕ) → length text ≡ 8 → day_of_digits text ≡ Some day → hour < 24 → has_hour resolution hour ≡ true → dated_start resolution (text ++ hour_text hour) ≡ Some (day * 1440 + hour * 60)
+pub dated-read : (resolution : Resolution) (text : List ℕ) (day hour : ℕ) → length text ≡ 8 → day_of_digits text ≡ Some day → hour < 24 → has_hour resolution hour ≡ true → dated_start resolution (text ++ hour_text hour) ≡ Some (midnight day + hour * 60)
 dated-read r text day hour eight d small here =
     let front : take 8 (text ++ hour_text hour) ≡ text = ap (λ n. take n (text ++ hour_text hour)) (sym eight) ∙ take-append_seam text (hour_text hour) in
     let back : drop 8 (text ++ hour_text hour) ≡ hour_text hour = ap (λ n. drop n (text ++ hour_text hour)) (sym eight) ∙ drop-append_seam text (hour_text hour) in
@@ -186,12 +188,12 @@ made s o h l c v = record {
 
 pub row-natural : (row : Row) → IsRow row → row ≡ row_of (start_of_row row) (unsigned_abs row.opening.0) (unsigned_abs row.high.0) (unsigned_abs row.low.0) (unsigned_abs row.closing.0) (unsigned_abs row.volume.0)
 row-natural row i =
-    let s = natural row.start.0 i.first in
-    let o = natural row.opening.0 (omega (arith, ints, i.opening.least)) in
-    let h = natural row.high.0 (omega (arith, ints, i.high.least)) in
-    let l = natural row.low.0 (omega (arith, ints, i.low.least)) in
-    let c = natural row.closing.0 (omega (arith, ints, i.closing.least)) in
-    let v = natural row.volume.0 i.least in
+    let s = natural row.start.0 i.start.0 in
+    let o = natural row.opening.0 (omega (arith, ints, i.opening.0)) in
+    let h = natural row.high.0 (omega (arith, ints, i.high.0)) in
+    let l = natural row.low.0 (omega (arith, ints, i.low.0)) in
+    let c = natural row.closing.0 (omega (arith, ints, i.closing.0)) in
+    let v = natural row.volume.0 i.volume.0 in
     ap (λ x. made x row.opening.0 row.high.0 row.low.0 row.closing.0 row.volume.0) s
     ∙ ap (λ x. made (pos (unsigned_abs row.start.0)) x row.high.0 row.low.0 row.closing.0 row.volume.0) o
     ∙ ap (λ x. made (pos (unsigned_abs row.start.0)) (pos (unsigned_abs row.opening.0)) x row.low.0 row.closing.0 row.volume.0) h
@@ -201,19 +203,19 @@ row-natural row i =
 
 pub row-valued : (row : Row) → IsRow row → IsValued (unsigned_abs row.opening.0) (unsigned_abs row.high.0) (unsigned_abs row.low.0) (unsigned_abs row.closing.0) (unsigned_abs row.volume.0)
 row-valued row i = record {
-  o_low = omega (arith, ints, i.opening.least);
-  o_high = omega (arith, ints, i.opening.least, i.opening.most);
-  h_low = omega (arith, ints, i.high.least);
-  h_high = omega (arith, ints, i.high.least, i.high.most);
-  l_low = omega (arith, ints, i.low.least);
-  l_high = omega (arith, ints, i.low.least, i.low.most);
-  c_low = omega (arith, ints, i.closing.least);
-  c_high = omega (arith, ints, i.closing.least, i.closing.most);
-  v_high = omega (arith, ints, i.least, i.most);
-  l_o = omega (arith, ints, i.low.least, i.opening.least, i.low_opening);
-  o_h = omega (arith, ints, i.opening.least, i.high.least, i.opening_high);
-  l_c = omega (arith, ints, i.low.least, i.closing.least, i.low_closing);
-  c_h = omega (arith, ints, i.closing.least, i.high.least, i.closing_high);
+  o_low = omega (arith, ints, i.opening.0);
+  o_high = omega (arith, ints, i.opening.0, i.opening.1);
+  h_low = omega (arith, ints, i.high.0);
+  h_high = omega (arith, ints, i.high.0, i.high.1);
+  l_low = omega (arith, ints, i.low.0);
+  l_high = omega (arith, ints, i.low.0, i.low.1);
+  c_low = omega (arith, ints, i.closing.0);
+  c_high = omega (arith, ints, i.closing.0, i.closing.1);
+  v_high = omega (arith, ints, i.volume.0, i.volume.1);
+  l_o = omega (arith, ints, i.low.0, i.opening.0, i.low_opening);
+  o_h = omega (arith, ints, i.opening.0, i.high.0, i.opening_high);
+  l_c = omega (arith, ints, i.low.0, i.closing.0, i.low_closing);
+  c_h = omega (arith, ints, i.closing.0, i.high.0, i.closing_high);
 }
 
 -- a time and the values of a row make a line that is read as this row
@@ -229,24 +231,26 @@ timed-read numbers row i time t s plain e same =
     ∙ ap (λ r. Ok r) (sym (row-natural row i))
 
 pub minute_row-line : NumbersReadBack → (row : Row) → IsRow row → minute_row (day_of_row row) (minute_line row) ≡ Ok row
+unfolding minute_row
 minute_row-line numbers row i =
     let day = day_of_row row in
     let m = minute_of_row row in
-    timed-read numbers row i (minute_start day) (decimal (m * 60000)) (day * 1440 + m) (no_comma-decimal numbers (m * 60000) (omega arith)) (minute-read numbers day m (omega arith)) (omega arith)
+    timed-read numbers row i (minute_start day) (decimal (m * 60000)) (midnight day + m) (no_comma-decimal numbers (m * 60000) (omega arith)) (minute-read numbers day m (omega arith)) (omega arith)
 
 abbrev pub DaysReadBack : Type 0
 DaysReadBack = (day : ℕ) → day ≤ last_day → day_of_digits (day_text day) ≡ Some day
 
 row-day : (row : Row) → IsRow row → day_of_row row ≤ last_day
-row-day row i = let s = natural row.start.0 i.first in omega (arith, ints, i.last)
+row-day row i = let s = natural row.start.0 i.start.0 in omega (arith, ints, i.start.1)
 
 pub dated_row-line : NumbersReadBack → DaysReadBack → (row : Row) → IsRow row → minute_of_row row % 60 ≡ 0 → (resolution : Resolution) → has_hour resolution (minute_of_row row / 60) ≡ true → dated_row resolution (dated_line row) ≡ Ok row
+unfolding dated_row
 dated_row-line numbers days row i whole r here =
     let day = day_of_row row in
     let hour = minute_of_row row / 60 in
     let d = days day (row-day row i) in
     let e = dated-read r (day_text day) day hour (day-plain (day_text day) day d).long d (omega arith) here in
-    timed-read numbers row i (dated_start r) (day_text day ++ hour_text hour) (day * 1440 + hour * 60) (dated-plain r (day_text day ++ hour_text hour) (day * 1440 + hour * 60) e).plain e (omega arith)
+    timed-read numbers row i (dated_start r) (day_text day ++ hour_text hour) (midnight day + hour * 60) (dated-plain r (day_text day ++ hour_text hour) (midnight day + hour * 60) e).plain e (omega arith)
 
 -- and has no control character
 abbrev is_mark : ℕ → Bool

@@ -1,9 +1,9 @@
 -- How a line is read: field by field, from the front on.
-use Rattle.std.specs.Prelude.{ℕ, ◌≤◌, ◌^◌, Bool, true, ◌&&◌, ◌==◌, nat_le, if◌then◌else◌, List, [], ◌∷◌, Option, Some, None, option_map, option_and_then}
+use Rattle.std.specs.Prelude.{ℕ, ◌≤◌, Bool, true, ◌&&◌, ◌==◌, nat_le, if◌then◌else◌, List, [], ◌∷◌, Option, Some, None, option_map, option_and_then}
 use Rattle.std.specs.List.{list_all}
 use Rattle.lean_fixed.specs.Fields.{fields, plain_number}
+use Rattle.lean_fixed.specs.Ranges.{most_price}
 use Rattle.equity_csv.specs.declared.number.Leading.{Leading}
-use Rattle.equity_csv.specs.declared.number.Taken.{Taken}
 use Rattle.equity_csv.specs.Rows.{kept_if, price_in}
 
 -- the plain number in a field, where it is at most `most`
@@ -40,12 +40,12 @@ abbrev pub after_zeros : List (List ℕ) → Option (List (List ℕ))
 after_zeros (field ∷ more) = if list_all (λ z. z == 48) field then Some more else None
 after_zeros [] = None
 
--- what the code's own structs hold of these
-abbrev pub number_and_behind : Option Leading → Option (ℕ × List (List ℕ))
-number_and_behind found = option_map (λ n. (n.number, fields_after n.behind.now)) found
+-- what the code's own struct holds of these: a number, and what stands at the end of its field or behind its comma
+abbrev pub number_and_end : Option Leading → Option (ℕ × List (List ℕ))
+number_and_end found = option_map (λ n. (n.number, fields_after n.behind.now)) found
 
-abbrev pub number_and_rest : Option Taken → Option (ℕ × List (List ℕ))
-number_and_rest found = option_map (λ t. (t.number, fields t.rest.now)) found
+abbrev pub number_and_rest : Option Leading → Option (ℕ × List (List ℕ))
+number_and_rest found = option_map (λ n. (n.number, fields n.behind.now)) found
 
 infixl 10 ◌>>=◌
 abbrev pub ◌>>=◌ : {A B : Type 0} → Option A → (A → Option B) → Option B
@@ -72,12 +72,9 @@ first_prices values = do
   closing ← first_of price_in low.1
   Some (priced opening.0 high.0 low.0 closing.0 closing.1)
 
-pub record IsPriceNumber (n : ℕ) : Type 0 where
-  pub least : 1 ≤ n
-  pub most : n ≤ 10 ^ 10
-
+-- no price is too great
 pub record IsPriced (o h l c : ℕ) : Type 0 where
-  pub opening : IsPriceNumber o
-  pub high : IsPriceNumber h
-  pub low : IsPriceNumber l
-  pub closing : IsPriceNumber c
+  pub opening : o ≤ most_price
+  pub high : h ≤ most_price
+  pub low : l ≤ most_price
+  pub closing : c ≤ most_price

@@ -1,9 +1,11 @@
 -- What a line of a file of equity bars says: a row, or the first reason for which it is none. A row has at least six fields:
 -- the time, the opening, high, low and closing price, and the volume. Further fields say nothing.
-use Rattle.std.specs.Prelude.{ℕ, ◌+◌, ◌*◌, ◌/◌, ◌%◌, ◌^◌, Bool, true, ◌&&◌, ◌==◌, nat_le, nat_lt, if◌then◌else◌, pos, List, [], ◌∷◌, take, drop, Option, Some, None, option_map, Result, Ok, Err}
+use Rattle.std.specs.Prelude.{ℕ, ◌+◌, ◌*◌, ◌/◌, ◌%◌, Bool, true, ◌&&◌, ◌==◌, nat_le, nat_lt, if◌then◌else◌, pos, List, [], ◌∷◌, take, drop, Option, Some, None, option_map, Result, Ok, Err}
 use Rattle.lean_fixed.specs.Digits.{is_digit, value_of}
 use Rattle.lean_fixed.specs.Fields.{fields, plain_number}
 use Rattle.lean_fixed.specs.Calendar.{day_of_digits}
+use Rattle.lean_fixed.specs.Moments.{minutes_per_day, midnight}
+use Rattle.lean_fixed.specs.Ranges.{most_price, most_volume}
 use Rattle.lean_fixed.specs.declared.resolution.Resolution.{Resolution}
 use Rattle.lean_fixed.specs.declared.resolution.Resolution.TheVariants.{Minute, Daily}
 use Rattle.lean_items.specs.declared.reason.Reason.{Reason}
@@ -17,10 +19,10 @@ kept_if passes (Some n) = if passes n then Some n else None
 
 -- the price in a field, in 1/10000 dollar
 abbrev pub price_in : List ℕ → Option ℕ
-price_in field = kept_if (λ n. nat_le 1 n && nat_le n (10 ^ 10)) (plain_number field)
+price_in field = kept_if (λ n. nat_le 1 n && nat_le n most_price) (plain_number field)
 
 abbrev pub volume_in : List ℕ → Option ℕ
-volume_in field = kept_if (λ n. nat_le n (10 ^ 15)) (plain_number field)
+volume_in field = kept_if (λ n. nat_le n most_volume) (plain_number field)
 
 -- both the opening and the closing price lie from the low to the high
 abbrev pub is_ranged : ℕ → ℕ → ℕ → ℕ → Bool
@@ -51,15 +53,15 @@ row_of_fields time (at ∷ opening ∷ high ∷ low ∷ closing ∷ volume ∷ f
 row_of_fields time _ = Err Fields
 
 -- the minute of the day that starts so many milliseconds after 00:00
-abbrev pub minute_of_day : List ℕ → Option ℕ
-minute_of_day field =
-    option_map (λ ms. ms / 60000) (kept_if (λ ms. nat_lt ms 86400000 && (ms % 60000 == 0)) (plain_number field))
+abbrev pub minute_in : List ℕ → Option ℕ
+minute_in field =
+    option_map (λ ms. ms / 60000) (kept_if (λ ms. nat_lt ms (minutes_per_day * 60000) && (ms % 60000 == 0)) (plain_number field))
 
 abbrev pub minute_start : ℕ → List ℕ → Option ℕ
-minute_start day field = option_map (λ minute. day * 1440 + minute) (minute_of_day field)
+minute_start day field = option_map (λ minute. midnight day + minute) (minute_in field)
 
 -- the row that a line of the minute file of a day says
-abbrev pub minute_row : ℕ → List ℕ → Result Row Reason
+unfoldable pub minute_row : ℕ → List ℕ → Result Row Reason
 minute_row day text = row_of_fields (minute_start day) (fields text)
 
 -- the hour in a space, two digits from 00 to 23, and ":00"
@@ -80,7 +82,7 @@ has_hour Daily hour = hour == 0
 has_hour _ _ = true
 
 abbrev pub start_of : Option ℕ → Option ℕ → Option ℕ
-start_of (Some day) (Some hour) = Some (day * 1440 + hour * 60)
+start_of (Some day) (Some hour) = Some (midnight day + hour * 60)
 start_of _ _ = None
 
 -- the moment that "yyyyMMdd HH:00" is
@@ -89,5 +91,5 @@ dated_start resolution field =
     start_of (day_of_digits (take 8 field)) (kept_if (has_hour resolution) (hour_in (drop 8 field)))
 
 -- the row that a line of a file of hour or daily bars says
-abbrev pub dated_row : Resolution → List ℕ → Result Row Reason
+unfoldable pub dated_row : Resolution → List ℕ → Result Row Reason
 dated_row resolution text = row_of_fields (dated_start resolution) (fields text)

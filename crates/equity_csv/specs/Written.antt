@@ -1,38 +1,33 @@
 -- The rows that files can have, and their plainest lines.
-use Rattle.std.specs.Prelude.{ℕ, ◌*◌, ◌/◌, ◌%◌, ◌^◌, Bool, nat_le, ℤ, pos, ◌≤ℤ◌, ◌<ℤ◌, unsigned_abs, List, ◌∷◌, ◌++◌, codes, decimal}
+use Rattle.std.specs.Prelude.{ℕ, ◌*◌, ◌/◌, Bool, nat_le, ℤ, ◌≤ℤ◌, unsigned_abs, List, ◌∷◌, ◌++◌, codes, decimal}
 use Rattle.std.specs.List.{list_all}
+use Rattle.lean_fixed.specs.Moments.{day_of, minute_of_day}
+use Rattle.lean_fixed.specs.Ranges.{IsDatedMoment, IsPrice, IsVolume}
 use Rattle.lean_fixed.specs.Printed.{two_digits, day_text}
-use Rattle.lean_fixed.specs.declared.money.Price.{Price}
 use Rattle.equity_csv.specs.declared.row.Row.{Row}
 
-pub record IsPrice (price : Price) : Type 0 where
-  pub least : pos 1 ≤ℤ price.0
-  pub most : price.0 ≤ℤ pos (10 ^ 10)
-
--- what a reader may give: a row of a day from 1970-01-01 to 2199-12-31
+-- what a line can say: a row of a day from 1970-01-01 to 2199-12-31, with its numbers in their ranges
 pub record IsRow (row : Row) : Type 0 where
-  pub first : pos 0 ≤ℤ row.start.0
-  pub last : row.start.0 <ℤ pos (84006 * 1440)
-  pub opening : IsPrice row.opening
-  pub high : IsPrice row.high
-  pub low : IsPrice row.low
-  pub closing : IsPrice row.closing
+  pub start : IsDatedMoment row.start.0
+  pub opening : IsPrice row.opening.0
+  pub high : IsPrice row.high.0
+  pub low : IsPrice row.low.0
+  pub closing : IsPrice row.closing.0
   pub low_opening : row.low.0 ≤ℤ row.opening.0
   pub opening_high : row.opening.0 ≤ℤ row.high.0
   pub low_closing : row.low.0 ≤ℤ row.closing.0
   pub closing_high : row.closing.0 ≤ℤ row.high.0
-  pub least : pos 0 ≤ℤ row.volume.0
-  pub most : row.volume.0 ≤ℤ pos (10 ^ 15)
+  pub volume : IsVolume row.volume.0
 
 -- the start of a row in minutes since 1970-01-01 00:00, its day, and the minute of that day
 abbrev pub start_of_row : Row → ℕ
 start_of_row row = unsigned_abs row.start.0
 
 abbrev pub day_of_row : Row → ℕ
-day_of_row row = start_of_row row / 1440
+day_of_row row = day_of (start_of_row row)
 
 abbrev pub minute_of_row : Row → ℕ
-minute_of_row row = start_of_row row % 1440
+minute_of_row row = minute_of_day (start_of_row row)
 
 -- a further field of a line: a comma and a number
 abbrev pub field_text : ℤ → List ℕ

@@ -1,16 +1,16 @@
 //! The reader of hour and daily files.
 
-ghost use Rattle.std.specs.Prelude.{◌≡◌, ◌*◌, ◌%◌, ◌<◌, ◌≤◌, ◌&&◌, if◌then◌else◌, List, [], ◌∷◌, IfSome, IfOk};
+ghost use Rattle.std.specs.Prelude.{◌≡◌, ◌+◌, ◌*◌, ◌<◌, ◌≤◌, ◌&&◌, if◌then◌else◌, List, [], ◌∷◌, IfSome};
+ghost use Rattle.lean_fixed.specs.Calendar.{last_day};
 ghost use Rattle.lean_fixed.specs.Digits.{is_digit, value_of};
 ghost use Rattle.lean_fixed.specs.Fields.{fields};
-ghost use Rattle.lean_fixed.specs.declared.resolution.Resolution.{Resolution};
+ghost use Rattle.lean_fixed.specs.Moments.{midnight};
 ghost use Rattle.equity_csv.specs.Rows.{IsDated, hour_in, has_hour, dated_start, dated_row};
 ghost use Rattle.equity_csv.specs.Reading.{first_of, number_and_rest};
-ghost use Rattle.equity_csv.specs.Written.{IsRow, minute_of_row};
 
 use crate::fields::without_start;
 use crate::minute::first_minute;
-use crate::number::Taken;
+use crate::number::Leading;
 use crate::row::Row;
 use crate::values::read_values;
 use lean_fixed::{Day, Resolution};
@@ -27,44 +27,32 @@ const TIME: usize = 14;
 /// and `Range` where the opening or closing price does not lie from the low to the high.
 pub fn read_dated(resolution: Resolution, text: &[u8]) -> Result<Row, Reason>
     requires { IsDated resolution }
-    ensures read { result ≡ dated_row resolution text.now }
-
-    // Such a row can be written.
-    ensures row { IfOk result IsRow }
-    ensures whole { IfOk result (λ row. minute_of_row row % 60 ≡ 0) }
-    ensures midnight { IfOk result
-        (λ row. resolution ≡ Resolution.Daily → minute_of_row row ≡ 0) }
+    ensures { result ≡ dated_row resolution text.now }
 {
     match take_start(resolution, text) {
-        Some(time) => read_values(time.number, time.rest),
+        Some(time) => read_values(time.number, time.behind),
         None => Err(without_start(text)),
     }
 }
 
 // The minute since 1970-01-01 00:00 at which the row starts.
-fn take_start(resolution: Resolution, text: &[u8]) -> Option<Taken<'_>>
+fn take_start(resolution: Resolution, text: &[u8]) -> Option<Leading<'_>>
     ensures read { number_and_rest result ≡ first_of (dated_start resolution) (fields text.now) }
-    ensures most { IfSome result (λ t. t.number < 84006 * 1440) }
-    ensures whole { IfSome result (λ t. t.number % 60 ≡ 0) }
-    ensures midnight { IfSome result
-        (λ t. resolution ≡ Resolution.Daily → t.number % 1440 ≡ 0) }
+    ensures most { IfSome result (λ t. t.number < midnight (last_day + 1)) }
 {
     if text.len() <= TIME || text[TIME] != b',' {
         return None;
     }
     let number = dated_start(resolution, &text[..TIME])?;
-    Some(Taken {
+    Some(Leading {
         number,
-        rest: &text[TIME + 1..],
+        behind: &text[TIME + 1..],
     })
 }
 
 fn dated_start(resolution: Resolution, time: &[u8]) -> Option<u64>
     ensures read { result ≡ dated_start resolution time.now }
-    ensures most { IfSome result (λ start. start < 84006 * 1440) }
-    ensures whole { IfSome result (λ start. start % 60 ≡ 0) }
-    ensures midnight { IfSome result
-        (λ start. resolution ≡ Resolution.Daily → start % 1440 ≡ 0) }
+    ensures most { IfSome result (λ start. start < midnight (last_day + 1)) }
 {
     if time.len() != TIME {
         return None;

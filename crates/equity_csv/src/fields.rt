@@ -5,7 +5,7 @@ ghost use Rattle.lean_fixed.specs.Fields.{fields};
 
 use lean_items::Reason;
 
-/// The reason of a line that does not begin with a time and a comma.
+// The reason of a line that does not begin with a time and a comma.
 pub fn without_start(text: &[u8]) -> Reason
     ensures { result
         ≡ (if nat_le 6 (length (fields text.now)) then Reason.Time else Reason.Fields) }
@@ -17,7 +17,7 @@ pub fn without_start(text: &[u8]) -> Reason
     }
 }
 
-/// Whether the text has at least so many fields.
+// Whether the text has at least so many fields.
 pub fn has_fields(text: &[u8], least: usize) -> bool
     requires { 0 < least }
     ensures { result ≡ nat_le least (length (fields text.now)) }

@@ -1,15 +1,16 @@
-//! The rows of equity files, both ways: a reader gives the row that a line says, or the first reason for which it says none,
-//! and what a writer appends is read as the same row.
+//! The rows of equity files, both ways. A reader gives exactly the row that a line says, or the first of the reasons from
+//! `Fields` to `Range` for which it says none. A row that is read is in range, of its day and at its hour (`laws`), and what
+//! a writer appends for a row is one line that is read as this row.
 #![tactic(auto)]
 
 mod dated;
 mod fields;
+pub mod laws;
 mod minute;
 mod number;
 mod row;
-#[cfg(test)]
-mod tests;
 mod values;
+mod worked;
 mod write;
 
 pub use dated::read_dated;

@@ -3,43 +3,37 @@
 ghost use Rattle.std.specs.Prelude.{◌≡◌, ◌<◌, ◌≤◌, ◌^◌, length, option_map, IfSome};
 ghost use Rattle.lean_fixed.specs.Digits.{is_digit};
 ghost use Rattle.lean_fixed.specs.Fields.{fields};
-ghost use Rattle.equity_csv.specs.Reading.{number_up_to, leading, first_of, number_and_rest, number_and_behind, fields_after, after_end, after_zeros};
+ghost use Rattle.equity_csv.specs.Reading.{number_up_to, leading, first_of, number_and_rest, number_and_end, fields_after, after_end, after_zeros};
 
-/// A number that a text begins with, and what stands behind its field: nothing, or a comma and the further fields.
+// A number that a text begins with, and the text behind it.
 #[derive(Clone, Copy)]
 pub struct Leading<'t> {
     pub number: u64,
     pub behind: &'t [u8],
 }
 
-/// A number that a text begins with, and the text of the fields after it.
-#[derive(Clone, Copy)]
-pub struct Taken<'t> {
-    pub number: u64,
-    pub rest: &'t [u8],
-}
-
-/// The plain number that the text's first field is, and the fields after it. `None` where there is no further field, or the
-/// field is no plain number of at most `most`.
-pub fn take_number(text: &[u8], most: u64) -> Option<Taken<'_>>
+// The plain number that the text's first field is, and the fields after it. `None` where there is no further field, or the
+// field is no plain number of at most `most`.
+pub fn take_number(text: &[u8], most: u64) -> Option<Leading<'_>>
     requires { most ≤ 10 ^ 18 }
     ensures read { number_and_rest result ≡ first_of (number_up_to most) (fields text.now) }
-    ensures most { IfSome result (λ t. t.number ≤ most) }
+    ensures most { IfSome result (λ n. n.number ≤ most) }
 {
     let leading = leading_number(text, most)?;
     if leading.behind.is_empty() {
         return None;
     }
-    Some(Taken {
+    Some(Leading {
         number: leading.number,
-        rest: &leading.behind[1..],
+        behind: &leading.behind[1..],
     })
 }
 
-/// The plain number that the text's first field is. `None` where the field is no plain number of at most `most`.
+// The plain number that the text's first field is, and what stands at the end of this field: nothing, or a comma and the
+// further fields. `None` where the field is no plain number of at most `most`.
 pub fn leading_number(text: &[u8], most: u64) -> Option<Leading<'_>>
     requires { most ≤ 10 ^ 18 }
-    ensures read { number_and_behind result ≡ leading (number_up_to most) (fields text.now) }
+    ensures read { number_and_end result ≡ leading (number_up_to most) (fields text.now) }
     ensures most { IfSome result (λ n. n.number ≤ most) }
 {
     let [first, ..] = text else {

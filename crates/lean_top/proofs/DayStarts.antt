@@ -12,11 +12,11 @@ start_at (negsuc n) low = absurd (omega (arith, ints))
 pub daily_of : (row : Row) → IsRow row → minute_of_row row ≡ 0 → IsDaily row
 daily_of row is midnight =
     let n = unsigned_abs row.start.0 in
-    let start = start_at row.start.0 is.first in
-    let below : pos n <ℤ pos (84006 * 1440) = rw start at is.last in
+    let start = start_at row.start.0 is.start.0 in
+    let below : pos n <ℤ pos (84006 * 1440) = rw start at is.start.1 in
     let whole : n ≡ 1440 * (n / 1440) = omega (arith, midnight) in
     record {
       whole_day = start ∙ ap pos whole;
       in_range = omega (arith, ints, below);
-      volume_in_range = is.least;
+      volume_in_range = is.volume.0;
     }

@@ -11,6 +11,7 @@ use crate::lines::{split_line, text_of};
 use crate::path::daily_path;
 use crate::print::Stop;
 use crate::source::DailyRow;
+use equity_csv::laws::dated_row_is_valid;
 use equity_csv::read_dated;
 use lean_fixed::{NoMemory, Resolution, Symbol};
 use lean_io::{Hand, Whole, read_whole};
@@ -116,6 +117,7 @@ fn comes_after(rows: &[DailyRow], row: &DailyRow) -> bool
 fn read_daily_row(text: &[u8]) -> Result<DailyRow, Reason>
     ensures { plain_result result ≡ dated_row Resolution.Daily text.now }
 {
+    dated_row_is_valid();
     let row = read_dated(Resolution::Daily, text)?;
     Ok(DailyRow { row })
 }

@@ -3,6 +3,7 @@ use Rattle.std.proofs.lemmas.Bool.Decides.{nat_tests}
 use Rattle.lean_fixed.specs.declared.resolution.Resolution.TheVariants.{Hour, Daily}
 use Rattle.equity_csv.specs.Written.{minute_of_row}
 use Rattle.equity_csv.proofs.ReadBackLemmas.{dated_row-line, text-dated_line}
+use Rattle.equity_csv.proofs.LengthLemmas.{length-dated_line}
 use Rattle.equity_csv.proofs.write.write_dated.Goals as goal
 
 pub returns-clause-read : goal.returns-clause-read
@@ -15,3 +16,6 @@ returns-clause-daily c = λ midnight.
 
 pub returns-clause-text : goal.returns-clause-text
 returns-clause-text c = text-dated_line c.number_reads_back.ensures.digits c.day_reads_back.ensures.same c.args.row.now c.requires.row
+
+pub returns-clause-short : goal.returns-clause-short
+returns-clause-short c = length-dated_line c.day_reads_back.ensures.eight c.args.row.now c.requires.row
