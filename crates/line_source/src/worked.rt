@@ -1,12 +1,15 @@
 //! The definition of a file's lines, computed on small files.
-ghost use Rattle.std.specs.Prelude.{◌≡◌, [], ◌∷◌, ◌++◌, codes, replicate, take};
+ghost use Rattle.std.specs.Prelude.{◌≡◌, [], ◌∷◌, ◌++◌, codes, replicate};
 ghost use Rattle.line_source.specs.Lines.{lines, line_of, past_blank, TextLine, BlankLine, LongLine, ManyLine};
 
 /// Without a last LF, with CRs, blank, of a lone CR, of an LF alone, and empty.
 pub fn small_files()
-    ensures unended { lines (codes "a\nbc") ≡ (1, TextLine (codes "a")) ∷ (2, TextLine (codes "bc")) ∷ [] }
-    ensures ended { lines (codes "a\nbc\n") ≡ (1, TextLine (codes "a")) ∷ (2, TextLine (codes "bc")) ∷ [] }
-    ensures returns { lines (codes "a\r\nb\r\r") ≡ (1, TextLine (codes "a")) ∷ (2, TextLine (codes "b\r")) ∷ [] }
+    ensures unended { lines (codes "a\nbc")
+        ≡ (1, TextLine (codes "a")) ∷ (2, TextLine (codes "bc")) ∷ [] }
+    ensures ended { lines (codes "a\nbc\n")
+        ≡ (1, TextLine (codes "a")) ∷ (2, TextLine (codes "bc")) ∷ [] }
+    ensures returns { lines (codes "a\r\nb\r\r")
+        ≡ (1, TextLine (codes "a")) ∷ (2, TextLine (codes "b\r")) ∷ [] }
     ensures blank { lines (codes "a\n\n\r\nb\n")
         ≡ (1, TextLine (codes "a")) ∷ (2, BlankLine) ∷ (3, BlankLine) ∷ (4, TextLine (codes "b")) ∷ [] }
     ensures passed { past_blank (lines (codes "\n\r\nb\n")) ≡ (3, TextLine (codes "b")) ∷ [] }
@@ -23,11 +26,14 @@ pub fn limits()
     ensures blank { line_of 10_000_001 [] ≡ ManyLine }
 {}
 
-/// A daily file of two rows, cut within its second line, with CRs and a blank line, and before its last LF.
-pub fn cut_files()
-    ensures cut { lines (take 53 (codes "20131007 00:00,1672000,1680000,1670000,1675000,1234\n20131008 00:00,1675000,1676000,1650000,1652000,2000\n"))
-        ≡ (1, TextLine (codes "20131007 00:00,1672000,1680000,1670000,1675000,1234")) ∷ (2, TextLine (codes "2")) ∷ [] }
-    ensures other { lines (codes "20131007 00:00,1672000,1680000,1670000,1675000,1234\r\n\n20131008 00:00,1675000,1676000,1650000,1652000,2000")
-        ≡ (1, TextLine (codes "20131007 00:00,1672000,1680000,1670000,1675000,1234")) ∷ (2, BlankLine)
+/// A daily file of two rows: cut behind the first byte of its second, and with a CR and a blank line and without a last LF.
+pub fn daily_files()
+    ensures cut { lines (codes "20131007 00:00,1672000,1680000,1670000,1675000,1234\n2")
+        ≡ (1, TextLine (codes "20131007 00:00,1672000,1680000,1670000,1675000,1234"))
+        ∷ (2, TextLine (codes "2")) ∷ [] }
+    ensures other { lines (codes "20131007 00:00,1672000,1680000,1670000,1675000,1234\r\n"
+        ++ codes "\n20131008 00:00,1675000,1676000,1650000,1652000,2000")
+        ≡ (1, TextLine (codes "20131007 00:00,1672000,1680000,1670000,1675000,1234"))
+        ∷ (2, BlankLine)
         ∷ (3, TextLine (codes "20131008 00:00,1675000,1676000,1650000,1652000,2000")) ∷ [] }
 {}
