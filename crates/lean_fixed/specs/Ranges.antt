@@ -1,5 +1,5 @@
 -- The ranges in which the numbers of a backtest lie. Prices and money are in 1/10000 dollar.
-use Rattle.std.specs.Prelude.{ℕ, ◌+◌, ◌-◌, ◌≢◌, ℤ, ◌≤ℤ◌, ◌<ℤ◌, pos, neg_ℤ}
+use Rattle.std.specs.Prelude.{ℕ, ◌+◌, ◌-◌, ◌≤◌, ◌≢◌, ℤ, ◌≤ℤ◌, ◌<ℤ◌, pos, neg_ℤ}
 use Rattle.lean_fixed.specs.declared.time.Window.{Window}
 use Rattle.lean_fixed.specs.Calendar.{last_day}
 use Rattle.lean_fixed.specs.Moments.{midnight}
@@ -72,6 +72,13 @@ most_money = 1000000000000000000000000000000
 
 abbrev pub IsMoney : ℤ → Type 0
 IsMoney n = IsAtMost most_money n
+
+-- how many times its own money a backtest may hold in shares
+abbrev pub most_leverage : ℕ
+most_leverage = 100
+
+abbrev pub IsLeverage : ℕ → Type 0
+IsLeverage n = (1 ≤ n) × (n ≤ most_leverage)
 
 -- a day from 1970-01-01 to 2199-12-31
 abbrev pub IsDay : ℤ → Type 0
