@@ -6,10 +6,10 @@ ghost use Rattle.lean_fixed.specs.Ranges.{IsWithin};
 use crate::Money;
 use crate::digits::read_digits;
 
-/// The units in a dollar.
+// The units in a dollar.
 const UNITS: u128 = 10_000;
 
-/// The greatest amount that is read: 10^20 units.
+// The greatest amount that is read: 10^20 units.
 const MOST: u128 = 100_000_000_000_000_000_000;
 
 /// The amount that the bytes spell in dollars: digits, or digits, a point and one to four digits. `None` exactly where

@@ -1,7 +1,7 @@
 ghost use Rattle.std.specs.Prelude.{◌≡◌, Bool, ◌^◌};
 ghost use Rattle.lean_fixed.specs.Digits.{digits, is_digit};
 
-/// The greatest number that is read: 10^18.
+// The greatest number that is read: 10^18.
 const MOST: u64 = 1_000_000_000_000_000_000;
 
 /// The number that the bytes spell in decimal digits. `None` exactly where they are not one or more digits of a value of

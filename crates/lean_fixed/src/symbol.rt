@@ -10,7 +10,7 @@ use std::cmp::Ordering;
 use std::hash::{Hash, Hasher};
 use std::marker::Model;
 
-/// The most bytes of a symbol.
+// The most bytes of a symbol.
 const MOST: usize = 12;
 
 /// The name of a security: 1 to 12 of the bytes `A` to `Z`, `0` to `9` and `.`, of which the first is no `.`. Contracts

@@ -8,13 +8,13 @@ use crate::time::date_at;
 use crate::{Day, Moment, Money, NoMemory, Price};
 use itoa::write_digits;
 
-/// The units in a dollar.
+// The units in a dollar.
 const UNITS: u64 = 10_000;
 
-/// The bytes of the longest text of money: a sign, 35 digits, a point and four digits.
+// The bytes of the longest text of money: a sign, 35 digits, a point and four digits.
 const LONGEST: usize = 41;
 
-/// Where the point stands in that many bytes.
+// Where the point stands in that many bytes.
 const POINT: usize = 36;
 
 /// Appends a price in dollars: `-` where it is negative, the whole dollars, a point and four digits. At `NoMemory` the

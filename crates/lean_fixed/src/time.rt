@@ -29,10 +29,10 @@ pub struct Window {
     pub last: Day,
 }
 
-/// The year of the first day.
+// The year of the first day.
 const FIRST_YEAR: u64 = 1970;
 
-/// The year of the last day.
+// The year of the last day.
 const LAST_YEAR: u64 = 2199;
 
 impl Day {
