@@ -56,7 +56,8 @@ pub fn amount_reads_back()
 
 /// A text of dollars without a leading zero, a point and four digits is the text of the amount that it is read as.
 pub fn amount_prints_back()
-    ensures { (text : List ℕ) (units : ℕ) → amount_of_text text ≡ Some units → units_text units ≡ text }
+    ensures { (text : List ℕ) (units : ℕ) → amount_of_text text ≡ Some units
+        → units_text units ≡ text }
 {}
 
 /// Money from 0 on is printed without a sign.
@@ -78,10 +79,12 @@ pub fn money_text_is_short(money: Money)
 pub fn number_reads_back()
     ensures digits { (number : ℕ) → number ≤ 10 ^ 18 → digits (decimal number) ≡ Some number }
     ensures field { (number : ℕ) → number ≤ 10 ^ 18 → plain_number (decimal number) ≡ Some number }
-    ensures plain { (number : ℕ) → number ≤ 10 ^ 18 → number_of_text (decimal number) ≡ Some number }
+    ensures plain { (number : ℕ) → number ≤ 10 ^ 18
+        → number_of_text (decimal number) ≡ Some number }
 {}
 
 /// Digits without a leading zero are those of the number that they are read as.
 pub fn number_prints_back()
-    ensures { (text : List ℕ) (number : ℕ) → number_of_text text ≡ Some number → decimal number ≡ text }
+    ensures { (text : List ℕ) (number : ℕ) → number_of_text text ≡ Some number
+        → decimal number ≡ text }
 {}

@@ -148,7 +148,6 @@ fn date_of(year: u64, month: u64, day: u64) -> Option<Date>
     Date::new(year as i16, month as i8, day as i8).ok()
 }
 
-#[tactic(auto, using(crate::proofs::CalendarWalk::not_before, crate::proofs::CalendarWalk::not_after))]
 fn day_of(date: Date) -> Day
     requires { IsBetween (pos 1970) (pos 2199) date.year }
     ensures value { result.0 ≡ epoch_day date }

@@ -42,8 +42,10 @@ fn worked_days()
 fn worked_moments()
     ensures day { day_of 23018970 ≡ 15985 }
     ensures minute { minute_of_day 23018970 ≡ 9 * 60 + 30 }
-    ensures first { first_moment (record { first = record { 0 = pos 15985 }; last = record { 0 = pos 15986 } }) ≡ 23018400 }
-    ensures last { last_moment (record { first = record { 0 = pos 15985 }; last = record { 0 = pos 15986 } }) ≡ 23021280 }
+    ensures first { first_moment
+        (record { first = record { 0 = pos 15985 }; last = record { 0 = pos 15986 } }) ≡ 23018400 }
+    ensures last { last_moment
+        (record { first = record { 0 = pos 15985 }; last = record { 0 = pos 15986 } }) ≡ 23021280 }
     ensures printed { last_printed_moment ≡ midnight (last_day + 2) }
 {}
 
