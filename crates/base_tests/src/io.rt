@@ -1,17 +1,18 @@
 ghost use Rattle.std.specs.Prelude.{◌≡◌, true};
 
+use lean_fixed::NoMemory;
 use lean_io::{
     DirFolder, Failed, Folder, Hand, MemFolder, MemSink, Sink, StdSink, Whole, WriteFault,
     read_whole, write_whole,
 };
-use std::alloc::{AllocError, Global};
+use std::alloc::Global;
 use std::collections::BTreeMap;
 use std::fmt::Write;
 use std::fs;
 use std::test::Fail;
 
 // A file of so many bytes, which all differ from their neighbours.
-fn made(alloc: Global, length: usize) -> Result<Vec<u8>, AllocError> {
+fn made(alloc: Global, length: usize) -> Result<Vec<u8>, NoMemory> {
     let mut bytes = Vec::with_capacity(alloc, length)?;
     for i in 0..length {
         bytes.push((i % 251) as u8)?;
@@ -19,60 +20,85 @@ fn made(alloc: Global, length: usize) -> Result<Vec<u8>, AllocError> {
     Ok(bytes)
 }
 
-// A folder of an empty file, one of three bytes and one of 40,000, which is read in two pieces. One call
-// of the openings of a path fails.
-fn folder(alloc: Global, path: &str, call: u64) -> Result<MemFolder, Fail> {
-    let mut files = BTreeMap::new(alloc);
-    files.insert(String::from_str(alloc, "none.csv")?, Vec::new(alloc))?;
-    files.insert(String::from_str(alloc, "three.csv")?, made(alloc, 3)?)?;
-    files.insert(String::from_str(alloc, "many.csv")?, made(alloc, 40_000)?)?;
-    let mut fails = Vec::new(alloc);
-    fails.push((String::from_str(alloc, path)?, call))?;
-    Ok(MemFolder::new(alloc, files, fails)?)
+// Puts a made file at a path.
+fn put(
+    alloc: Global,
+    files: &mut BTreeMap<String, Vec<u8>>,
+    path: &str,
+    length: usize,
+) -> Result<(), NoMemory> {
+    let bytes = made(alloc, length)?;
+    let path = String::from_str(alloc, path)?;
+    files.insert(path, bytes)?;
+    Ok(())
 }
 
-// How many bytes were read, where they are those of a made file.
-fn length_of(alloc: Global, bytes: &[u8]) -> Result<String, Fail> {
+// A folder of an empty file, one of three bytes and one of 40,000, which is read in two pieces.
+fn files(alloc: Global) -> Result<BTreeMap<String, Vec<u8>>, NoMemory> {
+    let mut files = BTreeMap::new(alloc);
+    put(alloc, &mut files, "none.csv", 0)?;
+    put(alloc, &mut files, "three.csv", 3)?;
+    put(alloc, &mut files, "many.csv", 40_000)?;
+    Ok(files)
+}
+
+// That one call of the openings of a path fails.
+fn failing(alloc: Global, path: &str, call: u64) -> Result<Vec<(String, u64)>, NoMemory> {
+    let mut fails = Vec::new(alloc);
+    fails.push((String::from_str(alloc, path)?, call))?;
+    Ok(fails)
+}
+
+// The folder of these files where one call of the openings of a path fails.
+fn folder(alloc: Global, path: &str, call: u64) -> Result<MemFolder, NoMemory> {
+    let files = files(alloc)?;
+    let fails = failing(alloc, path, call)?;
+    MemFolder::new(alloc, files, fails)
+}
+
+// Whether the bytes are those of a made file.
+fn is_made(alloc: Global, bytes: &[u8]) -> Result<bool, NoMemory> {
     let made = made(alloc, bytes.len())?;
-    let other = if made.as_slice() == bytes {
-        ""
-    } else {
-        "other "
-    };
-    Ok(format!(in alloc; "{other}{}", bytes.len())?)
+    Ok(made.as_slice() == bytes)
+}
+
+// How many bytes were read, where they are those of a made file, and how the reading ended.
+fn said(alloc: Global, bytes: &[u8], end: &str) -> Result<String, NoMemory> {
+    if is_made(alloc, bytes)? {
+        return Ok(format!(in alloc; "{}{end}", bytes.len())?);
+    }
+    Ok(String::from_str(alloc, "other bytes")?)
 }
 
 // What the reading of a whole file gives.
-fn whole<H: Hand>(alloc: Global, hand: &mut H, path: &str, most: usize) -> Result<String, Fail> {
-    let word = match read_whole(alloc, hand, path, most)? {
-        Whole::Text(text) => return length_of(alloc, &text),
-        Whole::Missing => "missing",
-        Whole::Large => "large",
-        Whole::Faulted => "faulted",
-    };
-    Ok(String::from_str(alloc, word)?)
-}
-
-// How many bytes were read, and how the reading ended.
-fn ended(alloc: Global, text: &[u8], end: &str) -> Result<String, Fail> {
-    let length = length_of(alloc, text)?;
-    Ok(format!(in alloc; "{length}{end}")?)
+fn whole<H: Hand>(
+    alloc: Global,
+    hand: &mut H,
+    path: &str,
+    most: usize,
+) -> Result<String, NoMemory> {
+    match read_whole(alloc, hand, path, most)? {
+        Whole::Text(text) => said(alloc, &text, ""),
+        Whole::Missing => Ok(String::from_str(alloc, "missing")?),
+        Whole::Large => Ok(String::from_str(alloc, "large")?),
+        Whole::Faulted => Ok(String::from_str(alloc, "faulted")?),
+    }
 }
 
 // What the reads of the open file give, with a buffer of this size and so many at most.
-fn pieces<H: Hand>(alloc: Global, hand: &mut H, size: usize, reads: u32) -> Result<String, Fail>
+fn pieces<H: Hand>(alloc: Global, hand: &mut H, size: usize, reads: u32) -> Result<String, NoMemory>
     requires { H.is_open hand.old ≡ true }
 {
     let mut text = Vec::new(alloc);
     let mut piece: Vec<u8> = vec![in alloc; 0; size]?;
     'reads: for _ in 0..reads {
         match hand.read(&mut piece) {
-            Ok(0) => return ended(alloc, &text, " to the end"),
+            Ok(0) => return said(alloc, &text, " to the end"),
             Ok(n) => text.extend_from_slice(&piece[..n])?,
-            Err(Failed) => return ended(alloc, &text, " and a fault"),
+            Err(Failed) => return said(alloc, &text, " and a fault"),
         }
     }
-    ended(alloc, &text, "")
+    said(alloc, &text, "")
 }
 
 // What a hand answers to a command: a word, a path and a number. `whole`: the file is read whole where
@@ -83,11 +109,11 @@ fn answer<H: Hand>(alloc: Global, hand: &mut H, command: &str) -> Result<String,
     let (path, number) = rest.rsplit_once(' ').ok_or("no number")?;
     let number: usize = number.parse()?;
     if word == "whole" {
-        return whole(alloc, hand, path, number);
+        return Ok(whole(alloc, hand, path, number)?);
     }
     let reads = if word == "front" { 1 } else { 100_000 };
     match hand.open_file(path) {
-        Ok(true) => pieces(alloc, hand, number, reads),
+        Ok(true) => Ok(pieces(alloc, hand, number, reads)?),
         Ok(false) => Ok(String::from_str(alloc, "no file")?),
         Err(Failed) => Ok(String::from_str(alloc, "no opening")?),
     }
@@ -157,18 +183,24 @@ whole other.csv 9, 0 = faulted, 0, faulted
 whole other.csv 9, 1 = missing, 0, missing
 ";
 
-// What a hand answers where a call fails.
+// What a hand answers to a command, to the reading of another file, and to the command again.
+fn three_answers<H: Hand>(alloc: Global, hand: &mut H, command: &str) -> Result<String, Fail> {
+    let first = answer(alloc, hand, command)?;
+    let other = answer(alloc, hand, "whole none.csv 9")?;
+    let again = answer(alloc, hand, command)?;
+    Ok(format!(in alloc; "{first}, {other}, {again}")?)
+}
+
+// The same of a hand of a folder where a call of the openings of the command's file fails.
 fn failing_answers(alloc: Global, case: &str) -> Result<String, Fail> {
     let (command, call) = case.split_once(", ").ok_or("no call")?;
     let (_, rest) = command.split_once(' ').ok_or("no path")?;
     let (path, _) = rest.rsplit_once(' ').ok_or("no number")?;
     let mut folder = folder(alloc, path, call.parse()?)?;
     let mut hand = folder.hand(alloc)?;
-    let first = answer(alloc, &mut hand, command)?;
-    let other = answer(alloc, &mut hand, "whole none.csv 9")?;
-    let again = answer(alloc, &mut hand, command)?;
+    let answers = three_answers(alloc, &mut hand, command);
     folder.take_back(hand);
-    Ok(format!(in alloc; "{first}, {other}, {again}")?)
+    answers
 }
 
 #[test]
@@ -187,34 +219,32 @@ fn each_call_fails_where_it_is_listed(rt: HostRuntime) -> Result<(), Fail> {
 // The most bytes that a sink takes at a time, how many it has room for and the write that fails, and what
 // it takes of ten bytes.
 const WRITES: &str = "\
-4 99 1 = fault, 0
-4 99 2 = fault, 4
-4 99 3 = fault, 8
-4 99 4 = all, 10
-4 10 9 = all, 10
-4 9 9 = fault, 9
-4 0 9 = fault, 0
-1 10 1 = fault, 0
-1 10 2 = fault, 1
-1 10 9 = fault, 8
-1 10 10 = fault, 9
-1 10 11 = all, 10
-10 10 1 = fault, 0
-10 10 2 = all, 10
+4 99 1 = 0 and a fault
+4 99 2 = 4 and a fault
+4 99 3 = 8 and a fault
+4 99 4 = 10 are all
+4 10 9 = 10 are all
+4 9 9 = 9 and a fault
+4 0 9 = 0 and a fault
+1 10 1 = 0 and a fault
+1 10 2 = 1 and a fault
+1 10 9 = 8 and a fault
+1 10 10 = 9 and a fault
+1 10 11 = 10 are all
+10 10 1 = 0 and a fault
+10 10 2 = 10 are all
 ";
 
 // What a sink takes of ten bytes.
-fn taken(alloc: Global, most: usize, room: usize, fail: u64) -> Result<String, Fail> {
+fn taken(alloc: Global, most: usize, room: usize, fail: u64) -> Result<String, NoMemory> {
     let piece = made(alloc, 10)?;
     let mut fails = Vec::new(alloc);
     fails.push(fail)?;
     let mut sink = MemSink::new(alloc, most.max(1), room, fails)?;
-    let word = match write_whole(&mut sink, &piece) {
-        Ok(()) => "all",
-        Err(WriteFault) => "fault",
-    };
-    let length = length_of(alloc, sink.bytes())?;
-    Ok(format!(in alloc; "{word}, {length}")?)
+    match write_whole(&mut sink, &piece) {
+        Ok(()) => said(alloc, sink.bytes(), " are all"),
+        Err(WriteFault) => said(alloc, sink.bytes(), " and a fault"),
+    }
 }
 
 #[test]
@@ -244,21 +274,33 @@ write d = failed
 write  = 0
 ";
 
+// What a sink answers to a command: `write` and a piece.
+fn write_answer(alloc: Global, sink: &mut MemSink, command: &str) -> Result<String, Fail> {
+    let piece = command.strip_prefix("write ").ok_or("no piece")?;
+    match sink.write(piece.as_bytes()) {
+        Ok(n) => Ok(format!(in alloc; "{n}")?),
+        Err(Failed) => Ok(String::from_str(alloc, "failed")?),
+    }
+}
+
+// The cases with what a sink answers to each of their commands in turn.
+fn write_answers(alloc: Global, sink: &mut MemSink, cases: &str) -> Result<String, Fail> {
+    let mut said = String::new(alloc);
+    for case in cases.lines() {
+        let (command, _) = case.split_once(" = ").ok_or("no answer")?;
+        let answer = write_answer(alloc, sink, command)?;
+        writeln!(said, "{command} = {answer}")?;
+    }
+    Ok(said)
+}
+
 #[test]
 fn writes_are_counted_from_one(rt: HostRuntime) -> Result<(), Fail> {
     let alloc = rt.alloc();
     let mut fails = Vec::new(alloc);
     fails.push(2)?;
     let mut sink = MemSink::new(alloc, 1, 2, fails)?;
-    let mut said = String::new(alloc);
-    for case in PIECES.lines() {
-        let (command, _) = case.split_once(" = ").ok_or("no answer")?;
-        let piece = command.strip_prefix("write ").ok_or("no piece")?;
-        match sink.write(piece.as_bytes()) {
-            Ok(n) => writeln!(said, "{command} = {n}")?,
-            Err(Failed) => writeln!(said, "{command} = failed")?,
-        }
-    }
+    let said = write_answers(alloc, &mut sink, PIECES)?;
     assert_eq!(rt; said.as_str(), PIECES);
     assert_eq!(rt; sink.bytes(), b"ab".as_slice());
     Ok(())
