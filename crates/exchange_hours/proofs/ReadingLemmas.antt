@@ -10,7 +10,9 @@ use Rattle.serde_json.specs.declared.value.Value.{Value}
 use Rattle.exchange_hours.specs.declared.fault.HoursFault.{HoursFault}
 use Rattle.exchange_hours.specs.declared.fault.HoursFault.TheVariants.{Json, NoEntry, DayForm, TimeForm, Holiday, EarlyClose, NoMemory}
 use Rattle.exchange_hours.specs.declared.entries.Segment.{Segment}
-use Rattle.exchange_hours.specs.HoursFile.{both, each, listed, named, segments, weekday_names, week, early_close, IsFault}
+use Rattle.exchange_hours.specs.declared.entries.EarlyClose.{EarlyClose as EarlyClose'}
+use Rattle.exchange_hours.specs.Entries.{Entries}
+use Rattle.exchange_hours.specs.HoursFile.{both, each, listed, named, segments, weekday_names, week, holidays, early_close, early_closes, entries_of, IsFault}
 
 moved : {A : Type 0} (done gave : List A) (rest : Result (List A) HoursFault) → both (Ok done) (both (Ok gave) rest) ≡ both (Ok (done ++ gave)) rest
 moved done gave (Err fault) = refl
@@ -106,3 +108,47 @@ week_next weekday name entry found within is_name is_found =
 pub week_none : (weekday : ℕ) (entry : Data) → 7 ≤ weekday → week_left weekday entry ≡ Ok []
 unfolding week_left
 week_none weekday entry past = ap (each (λ day. segments day.0 (get day.1 entry))) (drop_all weekday (enumerate_from 0 weekday_names) past)
+
+-- ---- the whole entry
+
+first_fault : {A : Type 0} (done : List A) (read : Result (List A) HoursFault) (whole : Result Entries HoursFault) (fault : HoursFault) → ((e : HoursFault) → read ≡ Err e → whole ≡ Err e)
+    → IsFault (both (Ok done) read) fault → IsFault whole fault
+first_fault done (Err e) whole Json stops h = let same : e ≡ Json = cc in stops e refl ∙ ap Err same
+first_fault done (Err e) whole NoEntry stops h = let same : e ≡ NoEntry = cc in stops e refl ∙ ap Err same
+first_fault done (Err e) whole DayForm stops h = let same : e ≡ DayForm = cc in stops e refl ∙ ap Err same
+first_fault done (Err e) whole TimeForm stops h = let same : e ≡ TimeForm = cc in stops e refl ∙ ap Err same
+first_fault done (Err e) whole Holiday stops h = let same : e ≡ Holiday = cc in stops e refl ∙ ap Err same
+first_fault done (Err e) whole EarlyClose stops h = let same : e ≡ EarlyClose = cc in stops e refl ∙ ap Err same
+first_fault done read whole NoMemory stops h = tt
+first_fault done (Ok xs) whole Json stops h = cc
+first_fault done (Ok xs) whole NoEntry stops h = cc
+first_fault done (Ok xs) whole DayForm stops h = cc
+first_fault done (Ok xs) whole TimeForm stops h = cc
+first_fault done (Ok xs) whole Holiday stops h = cc
+first_fault done (Ok xs) whole EarlyClose stops h = cc
+
+-- what was read onto an empty list is all of it
+pub all_read : {A : Type 0} (done items : List A) (read : Result (List A) HoursFault) → done ≡ [] → both (Ok done) read ≡ Ok items → read ≡ Ok items
+all_read done items read none is = sym (both_nothing done read none) ∙ is
+
+pub week_fault : (done : List Segment) (read : Result (List Segment) HoursFault) (days : Result (List ℕ) HoursFault) (closes : Result (List EarlyClose') HoursFault) (fault : HoursFault)
+    → IsFault (both (Ok done) read) fault → IsFault (entries_of read days closes) fault
+week_fault done read days closes fault h =
+    first_fault done read (entries_of read days closes) fault (λ e is. ap (λ r. entries_of r days closes) is) h
+
+pub holidays_fault : (items : List Segment) (read : Result (List Segment) HoursFault) (done : List ℕ) (found want : Option Data) (closes : Result (List EarlyClose') HoursFault) (fault : HoursFault)
+    → read ≡ Ok items → found ≡ want → IsFault (both (Ok done) (holidays found)) fault → IsFault (entries_of read (holidays want) closes) fault
+holidays_fault items read done found want closes fault before is h =
+    first_fault done (holidays found) (entries_of read (holidays want) closes) fault
+    (λ e stops. ap (λ r. entries_of r (holidays want) closes) before ∙ ap (λ r. entries_of (Ok items) r closes) (ap holidays (sym is) ∙ stops)) h
+
+pub closes_fault : (items : List Segment) (read : Result (List Segment) HoursFault) (numbers : List ℕ) (days : Result (List ℕ) HoursFault) (done : List EarlyClose') (found want : Option Data) (fault : HoursFault)
+    → read ≡ Ok items → days ≡ Ok numbers → found ≡ want → IsFault (both (Ok done) (early_closes found)) fault → IsFault (entries_of read days (early_closes want)) fault
+closes_fault items read numbers days done found want fault before then is h =
+    first_fault done (early_closes found) (entries_of read days (early_closes want)) fault
+    (λ e stops. ap (λ r. entries_of r days (early_closes want)) before ∙ ap (λ r. entries_of (Ok items) r (early_closes want)) then ∙ ap (entries_of (Ok items) (Ok numbers)) (ap early_closes (sym is) ∙ stops)) h
+
+pub whole_entry : (items : List Segment) (read : Result (List Segment) HoursFault) (numbers : List ℕ) (days : Result (List ℕ) HoursFault) (shorter : List EarlyClose') (closes : Result (List EarlyClose') HoursFault)
+    → read ≡ Ok items → days ≡ Ok numbers → closes ≡ Ok shorter → entries_of read days closes ≡ Ok (record { segments = items; holidays = numbers; early_closes = shorter })
+whole_entry items read numbers days shorter closes a b c =
+    ap (λ r. entries_of r days closes) a ∙ ap (λ r. entries_of (Ok items) r closes) b ∙ ap (entries_of (Ok items) (Ok numbers)) c

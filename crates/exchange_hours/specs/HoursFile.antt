@@ -1,6 +1,5 @@
 -- What the bytes of an hours file say of a market, or the first fault in them.
 use Rattle.std.specs.Prelude.{ℕ, ◌≡◌, ⊤, nat_lt, if◌then◌else◌, List, [], ◌∷◌, ◌++◌, codes, bytes_eq, is_some, option_and_then, option_to_list, option_map, map, Option, Some, None, Result, Ok, Err}
-use Rattle.std.specs.Option.{ok_or}
 use Rattle.std.specs.List.{enumerate_from}
 use Rattle.std.specs.Str.{is_utf8}
 use Rattle.serde_json.specs.Data.{Data, Items, no_items, item, Members, no_members, member}
@@ -92,8 +91,12 @@ week entry = each (λ day. segments day.0 (get day.1 entry)) (enumerate_from 0 w
 abbrev pub days_of : Civil → List ℕ
 days_of date = option_to_list (day_within date)
 
+abbrev pub holiday_on : Option Civil → Result (List ℕ) HoursFault
+holiday_on None = Err Holiday
+holiday_on (Some date) = Ok (days_of date)
+
 abbrev pub holiday : Data → Result (List ℕ) HoursFault
-holiday d = ok_or (option_map days_of (option_and_then date_of (as_str d))) Holiday
+holiday d = holiday_on (option_and_then date_of (as_str d))
 
 abbrev pub holidays : Option Data → Result (List ℕ) HoursFault
 holidays = each_of list_of Holiday holiday

@@ -2,7 +2,7 @@
 ghost use Rattle.std.specs.Prelude.{Ok, option_map, map};
 ghost use Rattle.serde_json.specs.View.{view, items_view, members_view};
 ghost use Rattle.exchange_hours.specs.Times.{civil};
-ghost use Rattle.exchange_hours.specs.HoursFile.{both, each, listed, named, holiday, holidays, close_on, early_close, early_closes, Leaves};
+ghost use Rattle.exchange_hours.specs.HoursFile.{both, each, listed, named, holiday_on, holiday, holidays, close_on, early_close, early_closes, Leaves};
 
 use crate::dates::{day_within, read_date};
 use crate::entries::EarlyClose;
@@ -38,10 +38,18 @@ fn append_holidays(list: &Vec<Value>, out: &mut Vec<u32>) -> Result<(), HoursFau
 fn append_holiday(value: &Value, out: &mut Vec<u32>) -> Result<(), HoursFault>
     ensures { Leaves (both (Ok out.old.items) (holiday (view value.now))) out.new.items result }
 {
-    let Some(text) = value.as_str() else {
-        return Err(HoursFault::Holiday);
+    let date = match value.as_str() {
+        Some(text) => read_date(text),
+        None => None,
     };
-    let Some(date) = read_date(text) else {
+    append_holiday_on(date, out)
+}
+
+fn append_holiday_on(date: Option<Date>, out: &mut Vec<u32>) -> Result<(), HoursFault>
+    ensures { Leaves (both (Ok out.old.items) (holiday_on (option_map civil date)))
+        out.new.items result }
+{
+    let Some(date) = date else {
         return Err(HoursFault::Holiday);
     };
     if let Some(day) = day_within(date) {

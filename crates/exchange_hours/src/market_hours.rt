@@ -180,13 +180,7 @@ impl Hours {
 fn minute_of(at: Moment) -> u32
     ensures { IsNearest at.0 result }
 {
-    if at.0 < 0 {
-        0
-    } else if at.0 > END_OF_DAYS as i64 {
-        END_OF_DAYS
-    } else {
-        at.0 as u32
-    }
+    at.0.clamp(0, END_OF_DAYS as i64).unsigned_abs() as u32
 }
 
 fn moment_at(minute: u32) -> Moment
