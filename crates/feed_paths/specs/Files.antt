@@ -1,6 +1,7 @@
 -- The files of a feed, by their numbers.
-use Rattle.std.specs.Prelude.{ℕ, ◌+◌, ◌-◌, ◌/◌, Bool, nat_lt, ℤ, pos, negsuc, ◌-ℤ◌, List, [], ◌∷◌, filter, Option, Some, None, is_some}
+use Rattle.std.specs.Prelude.{ℕ, ◌+◌, ◌-◌, Bool, nat_lt, ℤ, pos, negsuc, ◌-ℤ◌, List, [], ◌∷◌, filter, Option, Some, None, is_some}
 use Rattle.std.specs.List.{range_with_len}
+use Rattle.lean_fixed.specs.Moments.{day_of as moment_day}
 use Rattle.lean_fixed.specs.declared.resolution.Resolution.TheVariants.{Minute, Hour, Daily}
 use Rattle.lean_fixed.specs.declared.time.Window.{Window}
 use Rattle.lean_items.specs.declared.feed_key.FeedKey.{FeedKey}
@@ -16,7 +17,7 @@ from_1970 (negsuc _) = 0
 
 -- the day of a moment, or day 0
 abbrev pub day_of : ℤ → ℕ
-day_of minute = from_1970 minute / 1440
+day_of moment = moment_day (from_1970 moment)
 
 -- how many days there are from 1970-01-01 to a day
 abbrev pub count_to : ℤ → ℕ

@@ -1,3 +1,4 @@
 pub mod Files
 pub mod Least
 pub mod Paths
+pub mod Parts

@@ -15,7 +15,7 @@ abbrev pub lower : List ℕ → List ℕ
 lower symbol = map lower_case symbol
 
 -- the path of a kind's file, from the folder on
-abbrev pub path_of : FeedKind → ℕ → List ℕ
+unfoldable pub path_of : FeedKind → ℕ → List ℕ
 path_of Coarse file = codes "equity/usa/fundamental/coarse/" ++ day_text file ++ codes ".csv"
 path_of (Equity symbol Minute) file =
     codes "equity/usa/minute/" ++ lower symbol ++ codes "/" ++ day_text file ++ codes "_" ++ lower symbol ++ codes "_minute_trade.csv"

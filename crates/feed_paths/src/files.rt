@@ -1,9 +1,11 @@
 //! The files of a feed by their numbers, in the order in which they are read.
-ghost use Rattle.std.specs.Prelude.{◌≡◌, ◌≤◌, ◌-ℤ◌, ◌≤ℤ◌, pos, true, is_some, IfNone, IfSome, Some, None, if◌then◌else◌, [], ◌∷◌};
+ghost use Rattle.std.specs.Prelude.{◌≡◌, ◌+◌, ◌≤◌, ◌-ℤ◌, ◌≤ℤ◌, pos, true, is_some, IfNone, IfSome, Some, None, if◌then◌else◌, [], ◌∷◌};
+ghost use Rattle.lean_fixed.specs.Calendar.{last_day};
 ghost use Rattle.feed_paths.specs.Files.{from_1970, day_of, count_to, has_session, files_after};
 ghost use Rattle.feed_paths.specs.Least.{IsLeast, first_past};
 
 use exchange_hours::Hours;
+use lean_fixed::ranges::MINUTES_PER_DAY;
 use lean_fixed::{Day, Moment, Resolution, Window};
 use lean_items::{FeedKey, FeedKind};
 
@@ -16,11 +18,11 @@ use lean_items::{FeedKey, FeedKind};
 ///
 /// The files are those of US equities in LEAN's "Data Format" topic. The window ends by 2199-12-31, day 84,005.
 pub fn next_file(key: FeedKey, window: Window, hours: &Hours, after: Option<u32>) -> Option<u32>
-    requires { window.last.0 ≤ℤ pos 84005 }
+    requires { window.last.0 ≤ℤ pos last_day }
     ensures none { IfNone result (files_after key window hours.now after ≡ []) }
     ensures rest { IfSome result (λ n. files_after key window hours.now after
         ≡ n ∷ files_after key window hours.now (Some n)) }
-    ensures day { IfSome result (λ n. n ≤ 84005) }
+    ensures day { IfSome result (λ n. n ≤ last_day) }
 {
     match key.kind {
         FeedKind::Coarse => next_coarse(window, after),
@@ -33,7 +35,7 @@ pub fn next_file(key: FeedKey, window: Window, hours: &Hours, after: Option<u32>
 
 // The least day past `after`, from the day before the window's first to the day before its last.
 fn next_coarse(window: Window, after: Option<u32>) -> Option<u32>
-    requires { window.last.0 ≤ℤ pos 84005 }
+    requires { window.last.0 ≤ℤ pos last_day }
     ensures { IsLeast (λ _. true) (first_past (from_1970 (window.first.0 -ℤ pos 1)) after)
         (count_to (window.last.0 -ℤ pos 1)) result }
 {
@@ -47,17 +49,21 @@ fn next_coarse(window: Window, after: Option<u32>) -> Option<u32>
 
 // The least day past `after` with a session, from the day of a moment to the last one of the window.
 fn next_minute(start: Moment, last: Day, hours: &Hours, after: Option<u32>) -> Option<u32>
-    requires { last.0 ≤ℤ pos 84005 }
+    requires { last.0 ≤ℤ pos last_day }
     ensures { IsLeast (has_session hours.now) (first_past (day_of start.0) after)
         (count_to last.0) result }
 {
     let end = (last.0 as i64 + 1).max(0) as u64;
-    next_session(hours, first_day(start.0 / 1440, after), end)
+    next_session(
+        hours,
+        first_day(start.0 / MINUTES_PER_DAY as i64, after),
+        end,
+    )
 }
 
 // The least day with a session, from one day on and before another.
 fn next_session(hours: &Hours, from: u64, end: u64) -> Option<u32>
-    requires { end ≤ 84006 }
+    requires { end ≤ last_day + 1 }
     ensures { IsLeast (has_session hours.now) from end result }
 {
     for day in from..end {

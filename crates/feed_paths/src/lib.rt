@@ -4,6 +4,7 @@
 
 mod files;
 pub mod laws;
+mod part;
 mod paths;
 mod worked;
 

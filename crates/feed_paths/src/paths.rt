@@ -1,11 +1,15 @@
 //! Where the files of a folder lie, after LEAN's folder layout.
-ghost use Rattle.std.specs.Prelude.{◌≡◌, ◌+◌, ◌<◌, ◌≤◌, ◌++◌, true, length, OnOk, OnErr, string_bytes, codes, string_len, string_capacity};
+ghost use Rattle.std.specs.Prelude.{◌≡◌, ◌+◌, ◌<◌, ◌≤◌, ◌++◌, true, length, OnOk, OnErr, string_bytes, string_len, string_capacity};
+ghost use Rattle.std.specs.List.{list_all, flat_map};
+ghost use Rattle.lean_fixed.specs.Calendar.{last_day};
 ghost use Rattle.lean_fixed.specs.Printed.{day_text};
 ghost use Rattle.lean_fixed.specs.Symbol.{is_symbol_byte};
-ghost use Rattle.lean_fixed.specs.declared.resolution.Resolution.TheVariants.{Minute};
-ghost use Rattle.lean_items.specs.declared.feed_key.FeedKind.TheVariants.{Coarse, Equity};
+ghost use Rattle.lean_items.specs.declared.feed_key.FeedKind.TheVariants.{Equity};
 ghost use Rattle.feed_paths.specs.Paths.{path, path_of, lower, lower_case};
+ghost use Rattle.feed_paths.specs.Parts.{part_text, has_text};
 
+use crate::laws::paths_are_short;
+use crate::part::Part;
 use lean_fixed::laws::{day_reads_back, symbol_is_short};
 use lean_fixed::{Day, NoMemory, Resolution, Symbol};
 use lean_items::{FeedKey, FeedKind};
@@ -19,103 +23,110 @@ const MOST: usize = 80;
 ///
 /// The paths are those of US equities in LEAN's "Data Format" topic, with the symbol in lower case.
 pub fn path_text(key: FeedKey, file: u32, out: &mut String) -> Result<(), NoMemory>
-    requires { file ≤ 84005 }
+    requires { file ≤ last_day }
     ensures ok { OnOk result (string_bytes out.new ≡ string_bytes out.old ++ path key file) }
     ensures err { OnErr result (string_bytes out.new ≡ string_bytes out.old) }
     ensures full { OnErr result (string_capacity out.old < string_len out.old + 80) }
     ensures capacity { string_capacity out.old ≤ string_capacity out.new }
-    ensures short { length (path key file) ≤ 80 }
 {
-    path_is_short(key.kind, file);
     out.reserve(MOST)?;
     push_path(key.kind, file, out);
     Ok(())
 }
 
-// A symbol has at most 12 bytes and a day has eight.
-fn path_is_short(kind: FeedKind, file: u32)
-    ensures { length (path_of kind file) ≤ 80 }
-{
-    day_reads_back();
-    match kind {
-        FeedKind::Coarse => {}
-        FeedKind::Equity(symbol, _) => {
-            let _ = symbol.bytes();
-        }
-    }
-}
-
+// Appends the path of a kind's file.
 fn push_path(kind: FeedKind, file: u32, out: &mut String)
-    requires file { file ≤ 84005 }
+    requires file { file ≤ last_day }
     requires room { string_len out.old + 80 ≤ string_capacity out.old }
     ensures bytes { string_bytes out.new ≡ string_bytes out.old ++ path_of kind file }
     ensures capacity { string_capacity out.old ≤ string_capacity out.new }
 {
+    paths_are_short();
     match kind {
-        FeedKind::Coarse => push_coarse(file, out),
+        FeedKind::Coarse => push_parts(
+            &[
+                Part::Text("equity/usa/fundamental/coarse/"),
+                Part::Date(file),
+                Part::Text(".csv"),
+            ],
+            out,
+        ),
         FeedKind::Equity(symbol, resolution) => push_equity(symbol, resolution, file, out),
     }
 }
 
-fn push_coarse(day: u32, out: &mut String)
-    requires day { day ≤ 84005 }
-    requires room { string_len out.old + 80 ≤ string_capacity out.old }
-    ensures bytes { string_bytes out.new ≡ string_bytes out.old ++ path_of Coarse day }
-    ensures capacity { string_capacity out.old ≤ string_capacity out.new }
-{
-    out.push_str("equity/usa/fundamental/coarse/").unwrap();
-    push_day(day, out);
-    out.push_str(".csv").unwrap();
-}
-
+// Appends the path of a security's file.
 fn push_equity(symbol: Symbol, resolution: Resolution, file: u32, out: &mut String)
-    requires file { file ≤ 84005 }
+    requires file { file ≤ last_day }
     requires room { string_len out.old + 80 ≤ string_capacity out.old }
-    ensures bytes { string_bytes out.new ≡ string_bytes out.old ++ path_of (Equity symbol resolution) file }
+    ensures bytes { string_bytes out.new
+        ≡ string_bytes out.old ++ path_of (Equity symbol resolution) file }
     ensures capacity { string_capacity out.old ≤ string_capacity out.new }
 {
+    symbol_is_short(symbol);
+    paths_are_short();
     match resolution {
-        Resolution::Minute => push_minute(&symbol, file, out),
-        Resolution::Hour => push_whole("equity/usa/hour/", &symbol, out),
-        Resolution::Daily => push_whole("equity/usa/daily/", &symbol, out),
+        Resolution::Minute => push_parts(
+            &[
+                Part::Text("equity/usa/minute/"),
+                Part::Name(symbol),
+                Part::Text("/"),
+                Part::Date(file),
+                Part::Text("_"),
+                Part::Name(symbol),
+                Part::Text("_minute_trade.csv"),
+            ],
+            out,
+        ),
+        Resolution::Hour => push_parts(
+            &[
+                Part::Text("equity/usa/hour/"),
+                Part::Name(symbol),
+                Part::Text(".csv"),
+            ],
+            out,
+        ),
+        Resolution::Daily => push_parts(
+            &[
+                Part::Text("equity/usa/daily/"),
+                Part::Name(symbol),
+                Part::Text(".csv"),
+            ],
+            out,
+        ),
     }
 }
 
-// The minute file of a day.
-fn push_minute(symbol: &Symbol, day: u32, out: &mut String)
-    requires day { day ≤ 84005 }
-    requires room { string_len out.old + 80 ≤ string_capacity out.old }
-    ensures bytes { string_bytes out.new ≡ string_bytes out.old ++ path_of (Equity symbol.now Minute) day }
+// Appends parts, one after the other.
+fn push_parts(parts: &[Part], out: &mut String)
+    requires told { list_all has_text parts.now ≡ true }
+    requires room { string_len out.old + length (flat_map part_text parts.now)
+        ≤ string_capacity out.old }
+    ensures bytes { string_bytes out.new ≡ string_bytes out.old ++ flat_map part_text parts.now }
     ensures capacity { string_capacity out.old ≤ string_capacity out.new }
 {
-    out.push_str("equity/usa/minute/").unwrap();
-    push_lower(symbol, out);
-    out.push_str("/").unwrap();
-    push_day(day, out);
-    out.push_str("_").unwrap();
-    push_lower(symbol, out);
-    out.push_str("_minute_trade.csv").unwrap();
+    for part in parts {
+        push_part(part, out);
+    }
 }
 
-// The one file that a security has in a folder.
-fn push_whole(folder: &str, symbol: &Symbol, out: &mut String)
-    requires folder { length folder.now ≤ 20 }
-    requires room { string_len out.old + 80 ≤ string_capacity out.old }
-    ensures bytes { string_bytes out.new ≡ string_bytes out.old ++ folder.now ++ lower symbol.now ++ codes ".csv" }
+fn push_part(part: &Part, out: &mut String)
+    requires told { has_text part.now ≡ true }
+    requires room { string_len out.old + length (part_text part.now) ≤ string_capacity out.old }
+    ensures bytes { string_bytes out.new ≡ string_bytes out.old ++ part_text part.now }
     ensures capacity { string_capacity out.old ≤ string_capacity out.new }
 {
-    out.push_str(folder).unwrap();
-    push_lower(symbol, out);
-    out.push_str(".csv").unwrap();
+    match part {
+        Part::Text(text) => out.push_str(text).unwrap(),
+        Part::Name(symbol) => push_lower(symbol, out),
+        Part::Date(day) => push_day(*day, out),
+    }
 }
 
-// The symbol in lower case.
 fn push_lower(symbol: &Symbol, out: &mut String)
-    requires { string_len out.old + 12 ≤ string_capacity out.old }
+    requires { string_len out.old + length symbol.now ≤ string_capacity out.old }
     ensures bytes { string_bytes out.new ≡ string_bytes out.old ++ lower symbol.now }
-    ensures len { string_len out.new ≡ string_len out.old + length symbol.now }
     ensures capacity { string_capacity out.old ≤ string_capacity out.new }
-    ensures short { length symbol.now ≤ 12 }
 {
     symbol_is_short(*symbol);
     for byte in symbol.bytes() {
@@ -131,14 +142,11 @@ fn lower_case(byte: u8) -> char
     byte.to_ascii_lowercase() as char
 }
 
-// The eight digits of the day.
 fn push_day(day: u32, out: &mut String)
-    requires day { day ≤ 84005 }
-    requires room { string_len out.old + 8 ≤ string_capacity out.old }
+    requires day { day ≤ last_day }
+    requires room { string_len out.old + length (day_text day) ≤ string_capacity out.old }
     ensures bytes { string_bytes out.new ≡ string_bytes out.old ++ day_text day }
-    ensures len { string_len out.new ≡ string_len out.old + 8 }
     ensures capacity { string_capacity out.old ≤ string_capacity out.new }
-    ensures eight { length (day_text day) ≡ 8 }
 {
     day_reads_back();
     for digit in Day(day as i32).digits() {

@@ -1,7 +1,8 @@
 //! The definitions, computed on values that are known.
-ghost use Rattle.std.specs.Prelude.{◌≡◌, ◌+◌, ◌*◌, ◌-◌, pos, negsuc, codes, true, false, ◌∷◌, [], Some};
+ghost use Rattle.std.specs.Prelude.{◌≡◌, ◌+◌, ◌-◌, pos, negsuc, codes, true, false, ◌∷◌, [], Some};
 ghost use Rattle.lean_fixed.specs.declared.resolution.Resolution.TheVariants.{Minute, Hour, Daily};
 ghost use Rattle.lean_fixed.specs.declared.time.Window.{Window};
+ghost use Rattle.lean_fixed.specs.Moments.{midnight};
 ghost use Rattle.lean_items.specs.declared.feed_key.FeedKey.{FeedKey};
 ghost use Rattle.lean_items.specs.declared.feed_key.FeedKind.TheVariants.{Coarse, Equity};
 ghost use Rattle.exchange_hours.specs.Worked.{november_hours};
@@ -21,28 +22,28 @@ pub fn paths()
 pub fn real_days()
     ensures minute { let key : FeedKey = record {
       kind = Equity (codes "SPY") Minute;
-      start = record { 0 = pos (1440 * 16036 + 720) };
+      start = record { 0 = pos (midnight 16036 + 720) };
       fill = true;
     } in
         let window : Window = record { first = record { 0 = pos 16036 }; last = record { 0 = pos 16041 } } in
         files key window november_hours ≡ 16036 ∷ 16038 ∷ 16041 ∷ [] }
     ensures past { let key : FeedKey = record {
       kind = Equity (codes "SPY") Minute;
-      start = record { 0 = pos (1440 * 16036 + 720) };
+      start = record { 0 = pos (midnight 16036 + 720) };
       fill = true;
     } in
         let window : Window = record { first = record { 0 = pos 16036 }; last = record { 0 = pos 16041 } } in
         files_after key window november_hours (Some 16037) ≡ 16038 ∷ 16041 ∷ [] }
     ensures coarse { let key : FeedKey = record {
       kind = Coarse;
-      start = record { 0 = pos (1440 * 16036 - 1) };
+      start = record { 0 = pos (midnight 16036 - 1) };
       fill = false;
     } in
         let window : Window = record { first = record { 0 = pos 16036 }; last = record { 0 = pos 16038 } } in
         files key window november_hours ≡ 16035 ∷ 16036 ∷ 16037 ∷ [] }
     ensures daily { let key : FeedKey = record {
       kind = Equity (codes "SPY") Daily;
-      start = record { 0 = pos (1440 * 16036) };
+      start = record { 0 = pos (midnight 16036) };
       fill = true;
     } in
         let window : Window = record { first = record { 0 = pos 16036 }; last = record { 0 = pos 16041 } } in
