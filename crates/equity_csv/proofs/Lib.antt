@@ -9,3 +9,4 @@ pub mod AppendLemmas
 pub mod ReadBackLemmas
 pub mod SaidLemmas
 pub mod LengthLemmas
+pub mod PlainLemmas

@@ -48,7 +48,7 @@ digits-all ds n e =
     let t = passed ((not (length ds == 0) && list_all is_digit ds) && nat_le (value_of ds) (10 ^ 18)) (Some (value_of ds)) n e in
     (three (not (length ds == 0)) (list_all is_digit ds) (nat_le (value_of ds) (10 ^ 18)) t).1
 
-plain-digits : (ds : List ℕ) (n : ℕ) → digits ds ≡ Some n → plain_number ds ≡ Some n
+pub plain-digits : (ds : List ℕ) (n : ℕ) → digits ds ≡ Some n → plain_number ds ≡ Some n
 plain-digits ds n e =
     let all = digits-all ds n e in
     ap (λ z. if list_all (λ b. b == 48) z then digits (before_first is_point ds) else None) (after-digits ds all)
@@ -68,7 +68,7 @@ fields-append (b ∷ field) text h =
     let there : list_all no_comma field ≡ true = grind (arith, nat_tests) in
     rw here (ap (begin_first b) (fields-append field text there))
 
-fields-alone : (field : List ℕ) → list_all no_comma field ≡ true → fields field ≡ field ∷ []
+pub fields-alone : (field : List ℕ) → list_all no_comma field ≡ true → fields field ≡ field ∷ []
 fields-alone [] h = refl
 fields-alone (b ∷ field) h =
     let here : (b == 44) ≡ false = grind (arith, nat_tests) in

@@ -39,6 +39,7 @@ pub fn read_minute(day: Day, text: &[u8]) -> Result<Row, Reason>
 }
 
 // The minute since 1970-01-01 00:00 at which the row starts.
+#[inline(always)]
 fn take_start(day: Day, text: &[u8]) -> Option<Leading<'_>>
     requires { IsDay day.0 }
     ensures read { number_and_rest result
@@ -53,6 +54,7 @@ fn take_start(day: Day, text: &[u8]) -> Option<Leading<'_>>
 }
 
 // The minute of the day.
+#[inline(always)]
 fn take_minute(text: &[u8]) -> Option<Leading<'_>>
     ensures read { number_and_rest result ≡ first_of minute_in (fields text.now) }
     ensures most { IfSome result (λ t. t.number < minutes_per_day) }

@@ -47,6 +47,7 @@ pub fn read_values(start: u64, values: &[u8]) -> Result<Row, Reason>
     }
 }
 
+#[inline(always)]
 fn take_prices(text: &[u8]) -> Option<Prices<'_>>
     ensures read { option_map
         (λ p. priced p.opening p.high p.low p.closing (fields p.behind.now)) result
@@ -66,6 +67,7 @@ fn take_prices(text: &[u8]) -> Option<Prices<'_>>
     })
 }
 
+#[inline(always)]
 fn take_price(text: &[u8]) -> Option<Leading<'_>>
     ensures read { number_and_rest result ≡ first_of price_in (fields text.now) }
     ensures most { IfSome result (λ n. n.number ≤ most_price) }
@@ -77,6 +79,7 @@ fn take_price(text: &[u8]) -> Option<Leading<'_>>
     Some(taken)
 }
 
+#[inline(always)]
 fn is_ranged(prices: &Prices<'_>) -> bool
     ensures { result
         ≡ is_ranged prices.now.opening prices.now.high prices.now.low prices.now.closing }
@@ -87,6 +90,7 @@ fn is_ranged(prices: &Prices<'_>) -> bool
         && prices.closing <= prices.high
 }
 
+#[inline(always)]
 fn row_at(start: u64, prices: &Prices<'_>, volume: u64) -> Row
     requires start { start < midnight (last_day + 1) }
     requires prices { IsPriced prices.now.opening prices.now.high prices.now.low prices.now.closing }

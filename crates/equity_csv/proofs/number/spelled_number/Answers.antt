@@ -1,7 +1,7 @@
 use Rattle.std.proofs.Common.{arith}
 use Rattle.std.proofs.lemmas.Grind.{common_steps}
 use Rattle.equity_csv.proofs.NumberLemmas.{leading-text_none, leading-text_begin, leading_on-drop_other, leading_on-drop_digit, leading_on-large, leading_on-end}
-use Rattle.equity_csv.proofs.number.leading_number.Goals as goal
+use Rattle.equity_csv.proofs.number.spelled_number.Goals as goal
 
 pub returns-then-not-is_decimal : goal.returns-then-not-is_decimal
 returns-then-not-is_decimal c = grind (arith, common_steps, leading-text_none)
