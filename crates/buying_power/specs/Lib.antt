@@ -1,0 +1,2 @@
+pub mod Buying
+pub mod Worked

@@ -1,0 +1,2 @@
+pub mod FillPrice
+pub mod Worked
