@@ -1,0 +1,9 @@
+pub mod Numbers
+pub mod LotLemmas
+pub mod SymbolLemmas
+pub mod FillLemmas
+pub mod MarkLemmas
+pub mod StandsLemmas
+pub mod SmallLemmas
+pub mod TotalsLemmas
+pub mod HoldingLemmas

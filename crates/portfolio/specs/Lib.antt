@@ -1,0 +1,9 @@
+pub mod Symbols
+pub mod Lots
+pub mod LotRanges
+pub mod Sums
+pub mod Account
+pub mod Running
+pub mod Stands
+pub mod Small
+pub mod Worked
