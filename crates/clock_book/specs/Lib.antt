@@ -1,0 +1,5 @@
+pub mod Books
+pub mod Submits
+pub mod Matches
+pub mod Handled
+pub mod Worked
