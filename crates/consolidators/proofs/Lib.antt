@@ -1,0 +1,5 @@
+pub mod Minutes
+pub mod Numbers
+pub mod Turns
+pub mod SoFar
+pub mod Heard
