@@ -1,0 +1,7 @@
+pub mod Ranks
+pub mod Moves
+pub mod Extremes
+pub mod Hears
+pub mod EachWindow
+pub mod Lookback
+pub mod Together

@@ -1,0 +1,4 @@
+pub mod Window
+pub mod Kept
+pub mod Recent
+pub mod Sample
