@@ -1,0 +1,4 @@
+pub mod Passing
+pub mod Ranks
+pub mod Selected
+pub mod Sample
