@@ -1,0 +1,5 @@
+pub mod Active
+pub mod Choice
+pub mod Entries
+pub mod Refused
+pub mod Sample
