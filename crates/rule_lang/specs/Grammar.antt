@@ -1,0 +1,228 @@
+-- The grammar. Each rule is a reader of tokens: it gives a tree and the tokens behind it, or the first fault. The line of
+-- the grammar stands above the rule of its name; `{ .. }` is repeated, `[ .. ]` may be missing.
+use Rattle.std.specs.Prelude.{ℕ, zero, suc, ◌*◌, Bool, true, false, ◌&&◌, nat_le, if◌then◌else◌, pos, List, [], ◌∷◌, length, fold, Option, Some, None, Result, Ok, Err}
+use Rattle.bar_windows.specs.declared.spec.Func.{Func}
+use Rattle.rule_lang.specs.declared.fault.RuleError.{RuleError}
+use Rattle.rule_lang.specs.declared.fault.RuleError.TheVariants as error
+use Rattle.rule_lang.specs.declared.token.Op.{Op}
+use Rattle.rule_lang.specs.declared.token.Op.TheVariants as op
+use Rattle.rule_lang.specs.declared.token.Kind.{Kind}
+use Rattle.rule_lang.specs.declared.token.Kind.TheVariants as kind
+use Rattle.rule_lang.specs.declared.token.Token.{Token}
+use Rattle.rule_lang.specs.declared.token.Level.{Level}
+use Rattle.rule_lang.specs.declared.token.Level.TheVariants.{Or, And, Compared, Sum, Term}
+use Rattle.rule_lang.specs.declared.token.Inner.{Inner}
+use Rattle.rule_lang.specs.declared.token.Inner.TheVariants.{Any, Denial, Signed}
+use Rattle.rule_lang.specs.Tokens.{Fault}
+use Rattle.rule_lang.specs.Tree.{Tree, number, named, window, denied, negated, binary}
+
+abbrev pub Parser : Type 0 → Type 0
+Parser A = List Token → Result (A × List Token) Fault
+
+-- one reader after another: the first fault is the answer
+abbrev pub and_then : {A B : Type 0} → Result (A × List Token) Fault → (A → Parser B) → Result (B × List Token) Fault
+and_then (Ok read) f = f read.0 read.1
+and_then (Err fault) f = Err fault
+
+infixl 10 ◌>>=◌
+abbrev pub ◌>>=◌ : {A B : Type 0} → Parser A → (A → Parser B) → Parser B
+p >>= f = λ ts. and_then (p ts) f
+
+abbrev pub pure : {A : Type 0} → A → Parser A
+pure a = λ ts. Ok (a, ts)
+
+abbrev pub fails : {A : Type 0} → RuleError → ℕ → Parser A
+fails error at = λ ts. Err (error, at)
+
+-- the next token; behind the end of the text there is none
+unfoldable pub next : Parser Token
+next [] = Err (error.Syntax, 0)
+next (t ∷ ts) = Ok (t, ts)
+
+-- the next token, which has to be of a kind
+unfoldable pub expect : (Kind → Bool) → Parser Token
+expect wanted = next >>= λ t. if wanted t.kind then pure t else fails error.Syntax t.at
+
+abbrev pub is_opening : Kind → Bool
+is_opening kind.Opening = true
+is_opening _ = false
+
+abbrev pub is_closing : Kind → Bool
+is_closing kind.Closing = true
+is_closing _ = false
+
+abbrev pub is_end : Kind → Bool
+is_end kind.End = true
+is_end _ = false
+
+-- what the next token means, if it means something here; it is then behind us
+abbrev pub taken_if : {A : Type 0} → List Token → List Token → Option A → Result (Option A × List Token) Fault
+taken_if all others None = Ok (None, all)
+taken_if all others (Some meant) = Ok (Some meant, others)
+
+unfoldable pub taken : {A : Type 0} → (Token → Option A) → Parser (Option A)
+taken meaning [] = Ok (None, [])
+taken meaning (t ∷ ts) = taken_if (t ∷ ts) ts (meaning t)
+
+-- the operators of each level
+abbrev pub is_at : Level → Op → Bool
+is_at Or op.Or = true
+is_at And op.And = true
+is_at Compared op.Less = true
+is_at Compared op.AtMost = true
+is_at Compared op.Greater = true
+is_at Compared op.AtLeast = true
+is_at Compared op.Equal = true
+is_at Compared op.Unequal = true
+is_at Sum op.Plus = true
+is_at Sum op.Minus = true
+is_at Term op.Times = true
+is_at Term op.Over = true
+is_at _ _ = false
+
+-- an operator and its place
+abbrev pub Sign : Type 0
+Sign = Op × ℕ
+
+abbrev pub sign_of : Level → Kind → ℕ → Option Sign
+sign_of level (kind.Operator op) at = if is_at level op then Some (op, at) else None
+sign_of level _ at = None
+
+abbrev pub denial_of : Kind → ℕ → Option ℕ
+denial_of kind.Not at = Some at
+denial_of _ at = None
+
+-- an operator of this level, or `not`, if one is next
+unfoldable pub sign : Level → Parser (Option Sign)
+sign level = taken (λ t. sign_of level t.kind t.at)
+
+unfoldable pub negation : Parser (Option ℕ)
+negation = taken (λ t. denial_of t.kind t.at)
+
+-- an operator and its right operand, and the tree that they make of a left one
+abbrev pub Step : Type 0
+Step = Sign × Tree
+
+abbrev pub grown : Tree → Step → Tree
+grown left step = binary step.0.0 step.0.1 left step.1
+
+-- { sign operand }, in at most so many turns
+abbrev pub step_by : Parser Tree → Parser (List Step) → Option Sign → Parser (List Step)
+step_by operand others None = pure []
+step_by operand others (Some s) = do
+  right ← operand
+  more ← others
+  pure ((s, right) ∷ more)
+
+unfoldable pub steps : Level → Parser Tree → ℕ → Parser (List Step)
+steps level operand zero = pure []
+steps level operand (suc turns) = sign level >>= step_by operand (steps level operand turns)
+
+-- operand { sign operand }: each operator takes all to its left as one operand. There are no more turns than tokens.
+unfoldable pub chain : Level → Parser Tree → Parser Tree
+chain level operand = λ ts. (do
+  first ← operand
+  others ← steps level operand (length ts)
+  pure (fold grown first others)) ts
+
+-- operand [ sign operand ]
+abbrev pub pair_by : Parser Tree → Tree → Option Sign → Parser Tree
+pair_by operand left None = pure left
+pair_by operand left (Some s) = do
+  right ← operand
+  pure (grown left (s, right))
+
+unfoldable pub pair : Level → Parser Tree → Parser Tree
+pair level operand = do
+  left ← operand
+  s ← sign level
+  pair_by operand left s
+
+-- the length of a window: a number without a point from 1 to 1,000
+abbrev pub length_by : ℕ → Kind → Parser ℕ
+length_by at (kind.Whole n) = if nat_le 1 n && nat_le n 1000 then pure n else fails error.Number at
+length_by at (kind.Decimal n) = fails error.Number at
+length_by at _ = fails error.Syntax at
+
+unfoldable pub window_length : Parser ℕ
+window_length = next >>= λ t. length_by t.at t.kind
+
+-- "(" number ")", behind the word of a function
+unfoldable pub called : Func → Parser Tree
+called func = do
+  opening ← expect is_opening
+  length ← window_length
+  closing ← expect is_closing
+  pure (window (record { func = func; length = length }))
+
+-- `opened inner at` is what stands inside the level that the token at this place opens
+module _ (opened : Inner → ℕ → Parser Tree) where
+  -- or ")", behind "("
+  unfoldable pub enclosed : ℕ → Parser Tree
+  enclosed at = do
+    inner ← opened Any at
+    closing ← expect is_closing
+    pure inner
+
+  -- factor = number | name | func "(" number ")" | "(" or ")" | "-" factor
+  abbrev pub factor_by : ℕ → Kind → Parser Tree
+  factor_by at (kind.Whole n) = pure (number (pos (n * 10000)))
+  factor_by at (kind.Decimal n) = pure (number (pos n))
+  factor_by at (kind.Name n) = pure (named n)
+  factor_by at (kind.Func f) = called f
+  factor_by at kind.Opening = enclosed at
+  factor_by at (kind.Operator op.Minus) = opened Signed at >>= λ inner. pure (negated at inner)
+  factor_by at _ = fails error.Syntax at
+
+  unfoldable pub factor : Parser Tree
+  factor = next >>= λ t. factor_by t.at t.kind
+
+  -- term = factor { ("*" | "/") factor }
+  unfoldable pub term : Parser Tree
+  term = chain Term factor
+
+  -- sum = term { ("+" | "-") term }
+  unfoldable pub sum : Parser Tree
+  sum = chain Sum term
+
+  -- cmp = sum [ ("<" | "<=" | ">" | ">=" | "==" | "!=") sum ]
+  unfoldable pub cmp : Parser Tree
+  cmp = pair Compared sum
+
+  -- not = "not" not | cmp
+  abbrev pub denial_by : Option ℕ → Parser Tree
+  denial_by None = cmp
+  denial_by (Some at) = opened Denial at >>= λ inner. pure (denied at inner)
+
+  unfoldable pub not : Parser Tree
+  not = negation >>= denial_by
+
+  -- and = not { "and" not }
+  unfoldable pub and : Parser Tree
+  and = chain And not
+
+  -- or = and { "or" and }
+  unfoldable pub or : Parser Tree
+  or = chain Or and
+
+  -- the operands of the operators of each level
+  abbrev pub operand : Level → Parser Tree
+  operand Or = and
+  operand And = not
+  operand Compared = sum
+  operand Sum = term
+  operand Term = factor
+
+-- what stands inside one more level, while so many can still be opened
+unfoldable pub opened : ℕ → Inner → ℕ → Parser Tree
+opened zero inner at = fails error.Depth at
+opened (suc levels) Any at = or (opened levels)
+opened (suc levels) Denial at = not (opened levels)
+opened (suc levels) Signed at = factor (opened levels)
+
+-- a whole text, in which up to 32 levels are open at a place
+unfoldable pub whole : Parser Tree
+whole = do
+  tree ← or (opened 32)
+  end ← expect is_end
+  pure tree

@@ -1,0 +1,6 @@
+pub mod Tokens
+pub mod Tree
+pub mod Grammar
+pub mod Kinds
+pub mod Reading
+pub mod Values

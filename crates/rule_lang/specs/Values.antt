@@ -1,0 +1,105 @@
+-- The value of an expression: a number in units of 1/10000, a truth, or none.
+use Rattle.std.specs.Prelude.{ℕ, ◌^◌, Bool, false, not, ◌&&◌, ◌||◌, if◌then◌else◌, ℤ, pos, neg_ℤ, ◌+ℤ◌, ◌-ℤ◌, ◌*ℤ◌, int_lt, int_le, int_div, List, [], ◌∷◌, length, drop, Option, Some, None, option_map, option_and_then}
+use Rattle.std.specs.Int.{int_rem_euclid}
+use Rattle.std.specs.Ordering.{int_eq}
+use Rattle.rule_lang.specs.declared.token.Name.{Name}
+use Rattle.rule_lang.specs.declared.token.Name.TheVariants.{Open, High, Low, Close, Volume, Price, Position, Cash, Equity, Orders, Time}
+use Rattle.rule_lang.specs.declared.token.Op.{Op}
+use Rattle.rule_lang.specs.declared.token.Op.TheVariants as op
+use Rattle.rule_lang.specs.declared.view.View.{View}
+use Rattle.rule_lang.specs.Tree.{Tree, number, named, window, denied, negated, binary, windows_of}
+
+-- an operation has no value beyond this, either way
+abbrev pub reach : ℕ
+reach = 10 ^ 38
+
+abbrev pub within : ℤ → Option ℤ
+within n = if int_le (neg_ℤ (pos reach)) n && int_le n (pos reach) then Some n else None
+
+-- n / d, cut toward zero: no value where d is 0, or where n is beyond the reach, which the result is then within
+abbrev pub quotient : ℤ → ℤ → Option ℤ
+quotient n d = if int_eq d (pos 0) then None else option_map (λ m. int_div m d) (within n)
+
+-- an operation of arithmetic on two numbers
+abbrev pub computed : Op → ℤ → ℤ → Option ℤ
+computed op.Plus a b = within (a +ℤ b)
+computed op.Minus a b = within (a -ℤ b)
+computed op.Times a b = quotient (a *ℤ b) (pos 10000)
+computed op.Over a b = quotient (a *ℤ pos 10000) b
+computed _ a b = None
+
+-- a comparison of two numbers
+abbrev pub holds : Op → ℤ → ℤ → Bool
+holds op.Less a b = int_lt a b
+holds op.AtMost a b = int_le a b
+holds op.Greater a b = int_lt b a
+holds op.AtLeast a b = int_le b a
+holds op.Equal a b = int_eq a b
+holds op.Unequal a b = not (int_eq a b)
+holds _ a b = false
+
+-- a count as a number
+abbrev pub counted : ℤ → ℤ
+counted n = n *ℤ pos 10000
+
+-- the minutes since 00:00 of a moment's day
+abbrev pub minute_of_day : ℤ → ℤ
+minute_of_day moment = int_rem_euclid moment (pos 1440)
+
+-- the numbers that have a name
+abbrev pub value_of_name : View → Name → ℤ
+value_of_name view Open = view.bar.opening.0
+value_of_name view High = view.bar.high.0
+value_of_name view Low = view.bar.low.0
+value_of_name view Close = view.bar.closing.0
+value_of_name view Volume = counted view.bar.volume.0
+value_of_name view Price = view.price.0
+value_of_name view Position = counted view.position.0
+value_of_name view Cash = view.cash.0
+value_of_name view Equity = view.equity.0
+value_of_name view Orders = counted (pos view.orders)
+value_of_name view Time = counted (minute_of_day view.at.0)
+
+-- the first of the values of windows, and those behind the windows of an expression
+abbrev pub first_value : List (Option ℤ) → Option ℤ
+first_value [] = None
+first_value (value ∷ values) = value
+
+abbrev pub behind : Tree → List (Option ℤ) → List (Option ℤ)
+behind tree values = drop (length (windows_of tree)) values
+
+-- an operation has no value where an operand has none
+abbrev pub both : (ℤ → ℤ → Option ℤ) → Option ℤ → Option ℤ → Option ℤ
+both f (Some a) (Some b) = f a b
+both f _ _ = None
+
+-- the number that an expression is, where these are the values of its windows and of those behind it
+unfoldable pub number_of : View → List (Option ℤ) → Tree → Option ℤ
+number_of view values (number n) = Some n
+number_of view values (named name) = Some (value_of_name view name)
+number_of view values (window spec) = first_value values
+number_of view values (denied at x) = None
+number_of view values (negated at x) = option_and_then (λ n. within (neg_ℤ n)) (number_of view values x)
+number_of view values (binary op at x y) =
+    both (computed op) (number_of view values x) (number_of view (behind x values) y)
+
+-- a comparison with an operand without value is false
+abbrev pub compared : Op → Option ℤ → Option ℤ → Bool
+compared op (Some a) (Some b) = holds op a b
+compared op _ _ = false
+
+-- the truth that an expression is
+abbrev pub joined : Op → Bool → Bool → Bool → Bool
+joined op.Or x y c = x || y
+joined op.And x y c = x && y
+joined _ x y c = c
+
+unfoldable pub truth_of : View → List (Option ℤ) → Tree → Bool
+truth_of view values (number n) = false
+truth_of view values (named name) = false
+truth_of view values (window spec) = false
+truth_of view values (denied at x) = not (truth_of view values x)
+truth_of view values (negated at x) = false
+truth_of view values (binary op at x y) =
+    joined op (truth_of view values x) (truth_of view (behind x values) y)
+    (compared op (number_of view values x) (number_of view (behind x values) y))

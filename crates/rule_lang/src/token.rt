@@ -1,0 +1,88 @@
+use crate::RuleError;
+use bar_windows::Func;
+
+/// A number that an expression may name.
+#[derive(Clone, Copy, Debug, PartialEq, Eq)]
+pub enum Name {
+    Open,
+    High,
+    Low,
+    Close,
+    Volume,
+    Price,
+    Position,
+    Cash,
+    Equity,
+    Orders,
+    Time,
+}
+
+/// An operator between two operands; `Minus` is also the sign before one.
+#[derive(Clone, Copy, Debug, PartialEq, Eq)]
+pub enum Op {
+    Or,
+    And,
+    Less,
+    AtMost,
+    Greater,
+    AtLeast,
+    Equal,
+    Unequal,
+    Plus,
+    Minus,
+    Times,
+    Over,
+}
+
+/// What a token is.
+#[derive(Clone, Copy, Debug, PartialEq, Eq)]
+pub enum Kind {
+    /// A number without a point.
+    Whole(u64),
+    /// A number with a point, in units of 1/10000.
+    Decimal(u128),
+    Name(Name),
+    Func(Func),
+    Operator(Op),
+    Not,
+    Opening,
+    Closing,
+    /// The end of the text.
+    End,
+}
+
+/// A token and the place of its first byte in the text.
+#[derive(Clone, Copy)]
+pub struct Token {
+    pub kind: Kind,
+    pub at: u32,
+}
+
+/// What stands at the front of a text.
+#[derive(Clone, Copy)]
+pub enum Front {
+    /// A space or a tab.
+    Blank,
+    /// A token and the number of its bytes.
+    Lexeme(Kind, usize),
+    /// No token begins here, or a number has too many digits.
+    Bad(RuleError),
+}
+
+/// The levels of operators, from the one that binds most loosely. Compared operands do not follow one another.
+#[derive(Clone, Copy)]
+pub enum Level {
+    Or,
+    And,
+    Compared,
+    Sum,
+    Term,
+}
+
+/// What stands inside a level that a token opens: anything behind `(`, a truth behind `not`, a factor behind the sign `-`.
+#[derive(Clone, Copy)]
+pub enum Inner {
+    Any,
+    Denial,
+    Signed,
+}
