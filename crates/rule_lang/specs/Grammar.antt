@@ -11,6 +11,8 @@ use Rattle.rule_lang.specs.declared.token.Kind.TheVariants as kind
 use Rattle.rule_lang.specs.declared.token.Token.{Token}
 use Rattle.rule_lang.specs.declared.token.Level.{Level}
 use Rattle.rule_lang.specs.declared.token.Level.TheVariants.{Or, And, Compared, Sum, Term}
+use Rattle.rule_lang.specs.declared.token.Mark.{Mark}
+use Rattle.rule_lang.specs.declared.token.Mark.TheVariants.{Opening, Closing, End}
 use Rattle.rule_lang.specs.declared.token.Inner.{Inner}
 use Rattle.rule_lang.specs.declared.token.Inner.TheVariants.{Any, Denial, Signed}
 use Rattle.rule_lang.specs.Tokens.{Fault}
@@ -39,21 +41,15 @@ unfoldable pub next : Parser Token
 next [] = Err (error.Syntax, 0)
 next (t ∷ ts) = Ok (t, ts)
 
--- the next token, which has to be of a kind
-unfoldable pub expect : (Kind → Bool) → Parser Token
-expect wanted = next >>= λ t. if wanted t.kind then pure t else fails error.Syntax t.at
+-- the next token, which has to be this mark
+abbrev pub is_mark : Mark → Kind → Bool
+is_mark Opening kind.Opening = true
+is_mark Closing kind.Closing = true
+is_mark End kind.End = true
+is_mark _ _ = false
 
-abbrev pub is_opening : Kind → Bool
-is_opening kind.Opening = true
-is_opening _ = false
-
-abbrev pub is_closing : Kind → Bool
-is_closing kind.Closing = true
-is_closing _ = false
-
-abbrev pub is_end : Kind → Bool
-is_end kind.End = true
-is_end _ = false
+unfoldable pub expect : Mark → Parser Token
+expect mark = next >>= λ t. if is_mark mark t.kind then pure t else fails error.Syntax t.at
 
 -- what the next token means, if it means something here; it is then behind us
 abbrev pub taken_if : {A : Type 0} → List Token → List Token → Option A → Result (Option A × List Token) Fault
@@ -150,9 +146,9 @@ window_length = next >>= λ t. length_by t.at t.kind
 -- "(" number ")", behind the word of a function
 unfoldable pub called : Func → Parser Tree
 called func = do
-  opening ← expect is_opening
+  opening ← expect Opening
   length ← window_length
-  closing ← expect is_closing
+  closing ← expect Closing
   pure (window (record { func = func; length = length }))
 
 -- `opened inner at` is what stands inside the level that the token at this place opens
@@ -161,13 +157,13 @@ module _ (opened : Inner → ℕ → Parser Tree) where
   unfoldable pub enclosed : ℕ → Parser Tree
   enclosed at = do
     inner ← opened Any at
-    closing ← expect is_closing
+    closing ← expect Closing
     pure inner
 
   -- factor = number | name | func "(" number ")" | "(" or ")" | "-" factor
   abbrev pub factor_by : ℕ → Kind → Parser Tree
   factor_by at (kind.Whole n) = pure (number (pos (n * 10000)))
-  factor_by at (kind.Decimal n) = pure (number (pos n))
+  factor_by at (kind.Decimal units) = pure (number units)
   factor_by at (kind.Name n) = pure (named n)
   factor_by at (kind.Func f) = called f
   factor_by at kind.Opening = enclosed at
@@ -224,5 +220,5 @@ opened (suc levels) Signed at = factor (opened levels)
 unfoldable pub whole : Parser Tree
 whole = do
   tree ← or (opened 32)
-  end ← expect is_end
+  end ← expect End
   pure tree

@@ -4,3 +4,4 @@ pub mod Grammar
 pub mod Kinds
 pub mod Reading
 pub mod Values
+pub mod Nodes

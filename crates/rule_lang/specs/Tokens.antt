@@ -1,6 +1,7 @@
 -- The tokens of a text. Spaces and tabs separate them and mean nothing else.
-use Rattle.std.specs.Prelude.{ℕ, zero, suc, ◌+◌, ◌-◌, ◌*◌, ◌^◌, Bool, ◌&&◌, ◌||◌, ◌==◌, nat_le, nat_eq, bytes_eq, if◌then◌else◌, List, [], ◌∷◌, length, drop, take_while, Option, Some, None, Result, Ok, Err, codes}
+use Rattle.std.specs.Prelude.{ℕ, zero, suc, ◌+◌, ◌-◌, ◌*◌, ◌^◌, Bool, ◌&&◌, ◌||◌, ◌==◌, nat_le, nat_eq, bytes_eq, pos, if◌then◌else◌, List, [], ◌∷◌, length, drop, take_while, map, ◌≤◌, Option, Some, None, Result, Ok, Err, codes}
 use Rattle.std.specs.List.{starts_with}
+use Rattle.std.specs.Borrow.{Bor}
 use Rattle.bar_windows.specs.declared.spec.Func.TheVariants as func
 use Rattle.lean_fixed.specs.Digits.{is_digit, value_of}
 use Rattle.rule_lang.specs.declared.fault.RuleError.{RuleError}
@@ -71,11 +72,11 @@ lexeme_among test (entry ∷ entries) =
     if test entry.0 then Lexeme entry.1 (length entry.0) else lexeme_among test entries
 
 -- a text begins with a sign, the longest that it can be
-abbrev pub sign_at : List ℕ → Front
+unfoldable pub sign_at : List ℕ → Front
 sign_at text = lexeme_among (λ sign. starts_with nat_eq text sign) signs
 
 -- a text begins with a word, the run of its letters
-abbrev pub word_at : List ℕ → Front
+unfoldable pub word_at : List ℕ → Front
 word_at text = lexeme_among (λ word. bytes_eq word (take_while is_letter text)) words
 
 -- the digits behind the point with which a text begins
@@ -88,12 +89,12 @@ abbrev pub numeral : List ℕ → Option (List ℕ) → Front
 numeral whole None = if nat_le (length whole) 18 then Lexeme (kind.Whole (value_of whole)) (length whole) else Bad error.Number
 numeral whole (Some places) =
     if nat_le (length whole) 18 && nat_le 1 (length places) && nat_le (length places) 4
-    then Lexeme (kind.Decimal (value_of whole * 10000 + value_of places * 10 ^ (4 - length places)))
+    then Lexeme (kind.Decimal (pos (value_of whole * 10000 + value_of places * 10 ^ (4 - length places))))
     (length whole + 1 + length places)
     else Bad error.Number
 
 -- a text begins with a number, a run of digits and what may follow it
-abbrev pub number_at : List ℕ → Front
+unfoldable pub number_at : List ℕ → Front
 number_at text =
     numeral (take_while is_digit text) (places_at (drop (length (take_while is_digit text)) text))
 
@@ -126,3 +127,12 @@ tokens_from at zero (b ∷ text) = put_front (front_of (b ∷ text)) at (λ insi
 
 abbrev pub tokens : List ℕ → Result (List Token) Fault
 tokens text = tokens_from 0 0 text
+
+-- what stands at the front of a text is within it
+abbrev pub IsWithin : Front → ℕ → Type 0
+IsWithin (Lexeme sort size) most = (1 ≤ size) × (size ≤ most)
+IsWithin _ most = Unit {0}
+
+-- a table of texts, as the code holds it
+abbrev pub table : List (Bor (List ℕ) × Kind) → List (List ℕ × Kind)
+table entries = map (λ entry. (entry.0.now, entry.1)) entries

@@ -1,3 +1,8 @@
+ghost use Rattle.std.specs.Prelude.{◌≡◌};
+ghost use Rattle.rule_lang.specs.declared.fault.RuleFault.TheVariants.{NoMemory};
+
+use std::alloc::{AllocError, AllocFailed};
+
 /// The kind of value that an expression is to have.
 #[derive(Clone, Copy, Debug, PartialEq, Eq)]
 pub enum Want {
@@ -29,4 +34,20 @@ pub enum RuleFault {
     At(RuleError, u32),
     /// The tree or the list of tokens found no memory.
     NoMemory,
+}
+
+impl From<AllocError> for RuleFault {
+    ghost from_gives = { λ _ fault. fault ≡ NoMemory };
+
+    fn from(_: AllocError) -> Self {
+        RuleFault::NoMemory
+    }
+}
+
+impl<T: Drop> From<AllocFailed<T>> for RuleFault {
+    ghost from_gives = { λ _ fault. fault ≡ NoMemory };
+
+    fn from(_: AllocFailed<T>) -> Self {
+        RuleFault::NoMemory
+    }
 }

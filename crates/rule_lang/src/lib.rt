@@ -4,7 +4,9 @@
 #![tactic(auto)]
 
 mod fault;
+mod grammar;
 mod node;
+mod scan;
 mod token;
 mod view;
 mod worked;

@@ -40,7 +40,7 @@ pub enum Kind {
     /// A number without a point.
     Whole(u64),
     /// A number with a point, in units of 1/10000.
-    Decimal(u128),
+    Decimal(i128),
     Name(Name),
     Func(Func),
     Operator(Op),
@@ -85,4 +85,12 @@ pub enum Inner {
     Any,
     Denial,
     Signed,
+}
+
+/// A token that a rule of the grammar wants at a place.
+#[derive(Clone, Copy)]
+pub enum Mark {
+    Opening,
+    Closing,
+    End,
 }
