@@ -1,6 +1,5 @@
 -- A chain of operators, as a loop comes to it: the tree so far, and the turns that are left.
-use Rattle.std.proofs.Common.{◌≡◌, ℕ, zero, suc, ◌+◌, ◌-◌, ◌≤◌, ◌<◌, List, [], ◌∷◌, length, fold, Option, Some, None, Result, Ok, Err, refl, sym, ap, ◌∙◌, subst, arith}
-use Rattle.rule_lang.specs.declared.token.Op.{Op}
+use Rattle.std.proofs.Common.{◌≡◌, ℕ, zero, suc, ◌-◌, ◌≤◌, ◌<◌, List, [], ◌∷◌, length, fold, Option, Some, None, Result, Ok, Err, refl, ap, ◌∙◌, arith}
 use Rattle.rule_lang.specs.declared.token.Level.{Level}
 use Rattle.rule_lang.specs.declared.token.Level.TheVariants.{Or, And, Compared, Sum, Term}
 use Rattle.rule_lang.specs.declared.token.Inner.TheVariants.{Any, Denial, Signed}
@@ -8,8 +7,8 @@ use Rattle.rule_lang.specs.declared.token.Token.{Token}
 use Rattle.rule_lang.specs.declared.fault.RuleFault.{RuleFault}
 use Rattle.rule_lang.specs.declared.fault.RuleFault.TheVariants.{At, NoMemory}
 use Rattle.rule_lang.specs.Tokens.{Fault}
-use Rattle.rule_lang.specs.Tree.{Tree, binary}
-use Rattle.rule_lang.specs.Grammar.{Parser, and_then, pure, Sign, Step, grown, sign, taken, step_by, steps, chain, factor, not, or, operand, opened}
+use Rattle.rule_lang.specs.Tree.{Tree}
+use Rattle.rule_lang.specs.Grammar.{Parser, and_then, pure, Sign, Step, grown, sign, taken, steps, chain, factor, not, or, operand, opened}
 use Rattle.rule_lang.specs.Reading.{Fails}
 
 -- how much work the operators of a level are

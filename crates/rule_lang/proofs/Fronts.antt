@@ -1,17 +1,17 @@
 -- What stands at the front of a text lies within it.
-use Rattle.std.proofs.Common.{◌≡◌, ℕ, suc, ◌+◌, ◌≤◌, Bool, true, false, ◌&&◌, nat_le, nat_eq, bytes_eq, ◌==◌, if◌then◌else◌, List, [], ◌∷◌, length, get_or, drop, take, take_while, Option, Some, None, IfSome, refl, sym, ap, ◌∙◌, arith, inl, inr, length-drop, length-take}
+use Rattle.std.proofs.Common.{◌≡◌, ℕ, suc, ◌+◌, ◌≤◌, Bool, true, false, ◌&&◌, nat_le, nat_eq, bytes_eq, ◌==◌, if◌then◌else◌, List, [], ◌∷◌, length, get_or, drop, take, take_while, Option, Some, None, IfSome, refl, ap, arith, length-drop, length-take}
 use Rattle.std.specs.List.{list_all, starts_with, prefix_len}
 use lib.Pointwise.{pointwise}
 use Rattle.std.proofs.lemmas.Slice.Eq.{bytes_eq-Decides}
-use Rattle.std.proofs.lemmas.Bool.{cases_Bool, and_parts}
+use Rattle.std.proofs.lemmas.Bool.{and_parts}
 use Rattle.std.proofs.lemmas.Bool.Decides.{nat_tests}
 use Rattle.std.proofs.lemmas.List.Sums.{prefix_len-le-length}
 use Rattle.lean_fixed.specs.Digits.{is_digit}
 use Rattle.rule_lang.specs.declared.token.Kind.{Kind}
 use Rattle.rule_lang.specs.declared.token.Front.{Front}
-use Rattle.rule_lang.specs.declared.token.Front.TheVariants.{Blank, Lexeme, Bad}
+use Rattle.rule_lang.specs.declared.token.Front.TheVariants.{Lexeme, Bad}
 use Rattle.rule_lang.specs.declared.fault.RuleError.{RuleError}
-use Rattle.rule_lang.specs.Tokens.{is_blank, is_letter, words, signs, lexeme_among, sign_at, word_at, places_at, numeral, number_at, front_of, IsWithin}
+use Rattle.rule_lang.specs.Tokens.{is_letter, words, signs, lexeme_among, sign_at, word_at, places_at, numeral, number_at, IsWithin}
 
 pointwise-length : (xs ys : List ℕ) → pointwise nat_eq xs ys ≡ true → length xs ≡ length ys
 pointwise-length [] [] h = refl
@@ -60,20 +60,20 @@ number_at-cons b text digit =
     let size : length whole ≡ prefix_len is_digit (b ∷ text) = omega (arith, length-take (prefix_len is_digit (b ∷ text)) (b ∷ text)) in
     let behind = drop (length whole) (b ∷ text) in
     numeral-within whole (places_at behind) (suc (length text)) (omega arith) (omega arith)
-        (weakened (places_at behind) (length behind) (length whole) _ (omega (arith, length-drop (length whole) (b ∷ text))) (places_at-within behind))
+    (weakened (places_at behind) (length behind) (length whole) _ (omega (arith, length-drop (length whole) (b ∷ text))) (places_at-within behind))
 
 pub word_at-within : (text : List ℕ) → IsWithin (word_at text) (length text)
 unfolding word_at
 word_at-within text =
     lexeme_among-within (λ word. bytes_eq word (take_while is_letter text)) words (length text) refl
-        (λ word same. let e = (bytes_eq-Decides word (take_while is_letter text)).0 same in
-            omega (arith, ap length e, length-take (prefix_len is_letter text) text))
+    (λ word same. let e = (bytes_eq-Decides word (take_while is_letter text)).0 same in
+    omega (arith, ap length e, length-take (prefix_len is_letter text) text))
 
 pub sign_at-within : (text : List ℕ) → IsWithin (sign_at text) (length text)
 unfolding sign_at
 sign_at-within text =
     lexeme_among-within (λ sign. starts_with nat_eq text sign) signs (length text) refl
-        (λ sign begins. omega (arith, length-take (length sign) text, pointwise-length sign (take (length sign) text) begins))
+    (λ sign begins. omega (arith, length-take (length sign) text, pointwise-length sign (take (length sign) text) begins))
 
 pub number_at-within : (text : List ℕ) → 1 ≤ length text → is_digit (get_or text 0 0) ≡ true → IsWithin (number_at text) (length text)
 number_at-within [] some digit = absurd (omega arith)

@@ -2,3 +2,5 @@ pub mod Runs
 pub mod Fronts
 pub mod Scanned
 pub mod Chains
+pub mod Places
+pub mod Numbers

@@ -1,5 +1,5 @@
 -- Runs of bytes, digits and entries of tables, as loops come to them.
-use Rattle.std.proofs.Common.{◌≡◌, ℕ, zero, suc, ◌+◌, ◌-◌, ◌*◌, ◌^◌, ◌≤◌, ◌<◌, Bool, true, false, ◌&&◌, cond, if◌then◌else◌, List, [], ◌∷◌, length, get_or, take, drop, take_while, drop-cons, add-one, refl, arith, inl, inr}
+use Rattle.std.proofs.Common.{◌≡◌, ℕ, zero, suc, ◌+◌, ◌-◌, ◌*◌, ◌^◌, ◌≤◌, ◌<◌, Bool, true, false, ◌&&◌, cond, if◌then◌else◌, List, [], ◌∷◌, length, get_or, take, drop, drop-cons, add-one, refl, arith, inl, inr}
 use Rattle.std.specs.List.{list_all, prefix_len}
 use Rattle.std.specs.Borrow.{Bor}
 use Rattle.std.proofs.lemmas.Bool.{cases_Bool}
@@ -9,7 +9,6 @@ use Rattle.lean_fixed.specs.Digits.{is_digit}
 use Rattle.std.proofs.lemmas.List.Sums.{prefix_len-drop_yes, prefix_len-drop_no, prefix_len-drop_all}
 use Rattle.std.proofs.Math.Nat.{pow-suc, pow-le-pow_right}
 use Rattle.rule_lang.specs.declared.token.Kind.{Kind}
-use Rattle.rule_lang.specs.declared.token.Front.{Front}
 use Rattle.rule_lang.specs.declared.token.Front.TheVariants.{Lexeme}
 use Rattle.rule_lang.specs.Tokens.{table, lexeme_among}
 
@@ -53,5 +52,7 @@ value-next digits n i all short here small =
     (next.0, range.0, next.1, next.2)
 
 pub ruleset runs = (prefix_len-drop_yes, prefix_len-drop_no, prefix_len-drop_all)
+
 pub ruleset tables = (lexeme_among-drop)
+
 pub ruleset digits = (value-next)

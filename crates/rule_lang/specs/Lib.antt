@@ -5,3 +5,4 @@ pub mod Kinds
 pub mod Reading
 pub mod Values
 pub mod Nodes
+pub mod Held

@@ -20,6 +20,7 @@ const MOST_LEVELS: u32 = 32;
 const MOST_LENGTH: u64 = 1_000;
 
 /// The tokens that are still to be read, and the windows of those that were.
+#[derive(Drop)]
 pub struct Reader<'t> {
     pub alloc: Global,
     pub rest: &'t [Token],

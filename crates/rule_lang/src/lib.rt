@@ -3,13 +3,17 @@
 //! divides by zero.
 #![tactic(auto)]
 
+mod expr;
 mod fault;
 mod grammar;
+mod kinds;
 mod node;
 mod scan;
 mod token;
+mod value;
 mod view;
 mod worked;
 
+pub use expr::Expr;
 pub use fault::{RuleError, RuleFault, Want};
 pub use view::{View, WindowValues};

@@ -27,13 +27,7 @@ pub enum Node {
 
 /// Two operands and the operator between them. The windows of the right one were read behind those of the left one.
 #[tactic(auto, unfolding(crate::specs::Tree::windows_of))]
-pub fn binary(
-    alloc: Global,
-    op: Op,
-    at: u32,
-    left: Node,
-    right: Node,
-) -> Result<Node, RuleFault>
+pub fn binary(alloc: Global, op: Op, at: u32, left: Node, right: Node) -> Result<Node, RuleFault>
     ensures tree { Gives tree result (Ok (binary op at (tree left) (tree right))) }
     ensures adds { (old between new : List the_spec.WindowSpec) → Adds left old between → Adds right between new
         → IfOk result (λ x. Adds x old new) }

@@ -52,6 +52,7 @@ const SIGNS: [(&[u8], Kind); 12] = [
 
 /// The most digits of a number before its point, and behind it.
 const MOST_DIGITS: usize = 18;
+
 const MOST_PLACES: usize = 4;
 
 /// The tokens of a text and the end behind them, or the first fault.
@@ -195,7 +196,10 @@ fn decimal(whole: &[u8], places: &[u8]) -> Front
     }
     let units = value(whole) as u128 * 10_000;
     let rest = value(places) as u128 * 10u128.pow(4 - places.len() as u32);
-    Front::Lexeme(Kind::Decimal((units + rest) as i128), whole.len() + 1 + places.len())
+    Front::Lexeme(
+        Kind::Decimal((units + rest) as i128),
+        whole.len() + 1 + places.len(),
+    )
 }
 
 // What at most 18 digits stand for.

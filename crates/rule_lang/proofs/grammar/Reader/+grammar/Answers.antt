@@ -1,9 +1,8 @@
-use Rattle.std.proofs.Common.{◌≡◌, ◌+◌, ◌≤◌, ◌<◌, Ok, length, sym, arith}
+use Rattle.std.proofs.Common.{◌≡◌, arith}
 use Rattle.std.proofs.lemmas.Result.{err_from_is_err_and}
 use Rattle.rule_lang.specs.Tree.{binary}
 use Rattle.rule_lang.specs.Grammar as spec
-use Rattle.rule_lang.specs.Nodes.{tree, Adds}
-use Rattle.rule_lang.specs.Reading.{Reads}
+use Rattle.rule_lang.specs.Nodes.{tree}
 use Rattle.rule_lang.proofs.Chains.{goes-first, goes-on, goes-fails, goes-end, chain-fails, opened-any, opened-denial, opened-signed}
 use Rattle.rule_lang.proofs.grammar.Reader.+grammar.Goals as goal
 

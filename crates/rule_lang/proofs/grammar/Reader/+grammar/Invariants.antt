@@ -1,4 +1,4 @@
-use Rattle.std.proofs.Common.{ℕ, ◌+◌, ◌*◌, ◌≤◌, length}
+use Rattle.std.proofs.Common.{◌+◌, ◌*◌, ◌≤◌, length}
 use Rattle.rule_lang.specs.Grammar as spec
 use Rattle.rule_lang.specs.Nodes.{tree, Adds}
 use Rattle.rule_lang.proofs.Chains.{height, Goes}
