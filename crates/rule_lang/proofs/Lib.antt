@@ -4,3 +4,4 @@ pub mod Scanned
 pub mod Chains
 pub mod Places
 pub mod Numbers
+pub mod Lengths

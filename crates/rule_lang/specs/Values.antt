@@ -2,6 +2,7 @@
 use Rattle.std.specs.Prelude.{ℕ, ◌^◌, Bool, false, not, ◌&&◌, ◌||◌, if◌then◌else◌, ℤ, pos, neg_ℤ, ◌+ℤ◌, ◌-ℤ◌, ◌*ℤ◌, int_lt, int_le, int_div, List, [], ◌∷◌, length, drop, Option, Some, None, option_map, option_and_then}
 use Rattle.std.specs.Int.{int_rem_euclid}
 use Rattle.std.specs.Ordering.{int_eq}
+use Rattle.lean_fixed.specs.Moments.{minutes_per_day}
 use Rattle.rule_lang.specs.declared.token.Name.{Name}
 use Rattle.rule_lang.specs.declared.token.Name.TheVariants.{Open, High, Low, Close, Volume, Price, Position, Cash, Equity, Orders, Time}
 use Rattle.rule_lang.specs.declared.token.Op.{Op}
@@ -42,11 +43,7 @@ holds _ a b = false
 abbrev pub counted : ℤ → ℤ
 counted n = n *ℤ pos 10000
 
--- the minutes since 00:00 of a moment's day
-abbrev pub minute_of_day : ℤ → ℤ
-minute_of_day moment = int_rem_euclid moment (pos 1440)
-
--- the numbers that have a name
+-- The numbers that have a name. The time is the minutes since 00:00 of the moment's day, before 1970 too.
 abbrev pub value_of_name : View → Name → ℤ
 value_of_name view Open = view.bar.opening.0
 value_of_name view High = view.bar.high.0
@@ -58,7 +55,7 @@ value_of_name view Position = counted view.position.0
 value_of_name view Cash = view.cash.0
 value_of_name view Equity = view.equity.0
 value_of_name view Orders = counted (pos view.orders)
-value_of_name view Time = counted (minute_of_day view.at.0)
+value_of_name view Time = counted (int_rem_euclid view.at.0 (pos minutes_per_day))
 
 -- the first of the values of windows, and those behind the windows of an expression
 abbrev pub first_value : List (Option ℤ) → Option ℤ

@@ -1,4 +1,4 @@
-ghost use Rattle.std.specs.Prelude.{◌≡◌, ◌≤◌, length};
+ghost use Rattle.std.specs.Prelude.{◌≡◌, ◌≤◌, length, All};
 ghost use Rattle.rule_lang.specs.Tree.{windows_of};
 ghost use Rattle.rule_lang.specs.Nodes.{tree};
 ghost use Rattle.rule_lang.specs.Reading.{reading, Gives};
@@ -69,9 +69,10 @@ impl Expr {
     }
 
     /// The windows over closes that the expression names, as they stand in its text. One that is named twice is there
-    /// twice.
+    /// twice. Their lengths are from 1 to 1,000.
     pub fn windows(&self) -> &[WindowSpec]
-        ensures { result.now ≡ windows_of self.now }
+        ensures windows { result.now ≡ windows_of self.now }
+        ensures lengths { All (λ spec. (1 ≤ spec.length) × (spec.length ≤ 1000)) result.now }
     {
         &self.windows
     }

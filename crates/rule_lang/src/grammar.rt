@@ -86,6 +86,7 @@ impl Reader<'_> {
     #[tactic(auto, unfolding(crate::specs::Grammar::window_length))]
     fn window_length(&mut self) -> Result<u32, RuleFault>
         ensures reads { Reads (λ n. n) result (spec.window_length self.old.rest.now) self.new.rest.now }
+        ensures length { IfOk result (λ n. (1 ≤ n) × (n ≤ 1000)) }
         ensures shorter { length self.new.rest.now ≤ length self.old.rest.now }
         ensures windows { self.new.windows ≡ self.old.windows }
     {

@@ -1,3 +1,5 @@
+ghost use Rattle.std.specs.Prelude.{◌≡◌, ◌<◌, length, slice_set};
+
 use lean_fixed::{Moment, Money, Price, Shares};
 use lean_items::Bar;
 use std::marker::Model;
@@ -13,6 +15,16 @@ impl Model for WindowValues {
     ghost Value = { List (Option ℤ) };
 
     ghost view = { λ w. w.0.items };
+}
+
+impl WindowValues {
+    /// Gives a window its value at another moment.
+    pub fn set(&mut self, place: usize, value: Option<i64>)
+        requires { place < length self.old }
+        ensures { self.new ≡ slice_set self.old place value }
+    {
+        self.0[place] = value;
+    }
 }
 
 /// What an expression is read against: a security at a moment, after the properties of LEAN's "Securities" topic.

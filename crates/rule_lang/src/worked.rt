@@ -10,7 +10,7 @@ ghost use Rattle.rule_lang.specs.declared.token.Op.TheVariants as op;
 ghost use Rattle.rule_lang.specs.declared.view.View.{View};
 ghost use Rattle.rule_lang.specs.Tree.{number, named, window, denied, negated, binary};
 ghost use Rattle.rule_lang.specs.Reading.{reading};
-ghost use Rattle.rule_lang.specs.Values.{computed, number_of, truth_of, minute_of_day};
+ghost use Rattle.rule_lang.specs.Values.{computed, number_of, truth_of};
 
 // `1 - 2 - 3` takes the first two as one operand, `*` binds closer than `+`, and comparisons closer than `and`.
 fn worked_trees()
@@ -42,7 +42,6 @@ fn worked_values()
     ensures product { computed op.Times (negsuc 14998) (pos 15000) ≡ Some (negsuc 22497) }
     ensures quotient { computed op.Over (negsuc 9999) (pos 30000) ≡ Some (negsuc 3332) }
     ensures zero { computed op.Over (pos 10000) (pos 0) ≡ None }
-    ensures minute { minute_of_day (negsuc 0) ≡ pos 1439 }
     ensures place { (view : View) (a b : WindowSpec) → number_of view (Some (pos 5) ∷ Some (pos 7) ∷ [])
         (binary op.Minus 7 (window a) (window b)) ≡ Some (negsuc 1) }
     ensures missing { (view : View) (a b : WindowSpec) → truth_of view (Some (pos 5) ∷ None ∷ [])

@@ -19,10 +19,6 @@ pub returns-clause-zero : goal.returns-clause-zero
 unfolding reading whole opened or and not negation cmp sum term factor enclosed called window_length expect next taken pair chain steps sign tokens_from front_of word_at sign_at number_at kind_of misfits number_of truth_of windows_of
 returns-clause-zero c = refl
 
-pub returns-clause-minute : goal.returns-clause-minute
-unfolding reading whole opened or and not negation cmp sum term factor enclosed called window_length expect next taken pair chain steps sign tokens_from front_of word_at sign_at number_at kind_of misfits number_of truth_of windows_of
-returns-clause-minute c = refl
-
 pub returns-clause-place : goal.returns-clause-place
 unfolding reading whole opened or and not negation cmp sum term factor enclosed called window_length expect next taken pair chain steps sign tokens_from front_of word_at sign_at number_at kind_of misfits number_of truth_of windows_of
 returns-clause-place c = λ view a b. refl

@@ -1,0 +1,46 @@
+use rule_lang::{Expr, RuleError, RuleFault, Want};
+use std::alloc::Global;
+use std::fmt::Write;
+use std::test::Fail;
+
+// The texts of some cases, each with what a call answers, as lines `text = answer`.
+pub fn answered<F: Fn(Global, &str) -> Result<String, Fail>>(
+    alloc: Global,
+    cases: &str,
+    answer: F,
+) -> Result<String, Fail>
+    requires { F.IsAlwaysCallable answer }
+{
+    let mut said = String::new(alloc);
+    for case in cases.lines() {
+        let (text, _) = case.split_once(" = ").ok_or("no answer")?;
+        writeln!(said, "{text} = {}", answer(alloc, text)?)?;
+    }
+    Ok(said)
+}
+
+// The expression that a text of the table is.
+pub fn read(alloc: Global, text: &str, want: Want) -> Result<Result<Expr, RuleFault>, Fail> {
+    if text.len() > 1_000 {
+        return Err(Fail::from("a long text"));
+    }
+    Ok(Expr::read(alloc, text.as_bytes(), want))
+}
+
+// The word for a fault and its place.
+pub fn fault_text(alloc: Global, fault: RuleFault) -> Result<String, Fail> {
+    match fault {
+        RuleFault::At(error, at) => Ok(format!(in alloc; "{} {at}", error_word(error))?),
+        RuleFault::NoMemory => Ok(String::from_str(alloc, "no memory")?),
+    }
+}
+
+fn error_word(error: RuleError) -> &'static str {
+    match error {
+        RuleError::Token => "token",
+        RuleError::Number => "number",
+        RuleError::Syntax => "syntax",
+        RuleError::Depth => "depth",
+        RuleError::WrongType => "type",
+    }
+}
