@@ -1,109 +1,64 @@
--- What the least head of several lists says of them.
-use Rattle.std.proofs.Common.{◌≡◌, ℕ, ◌+◌, ◌<◌, ◌≤◌, Bool, true, false, List, [], ◌∷◌, ◌++◌, refl, ap, ◌∙◌, inl, inr, arith, length}
-use Rattle.std.specs.Prelude.{◌&&◌, ◌==◌}
-use Rattle.std.specs.List.{AllByRecursion}
-use Rattle.std.specs.Ordering.{is_lt}
-use Rattle.std.proofs.lemmas.Bool.{cases_Bool}
-use Rattle.std.proofs.lemmas.Bool.Decides.{nat_tests}
-use Rattle.lean_top.specs.declared.heads.Head.{Head}
-use Rattle.lean_top.specs.Heads.{heads}
-use Rattle.lean_top.specs.HeapOf.{head_cmp}
-use Rattle.lean_top.specs.ByDay.{Rises, AllRise}
-use Rattle.lean_top.specs.Heads.{tally}
+-- What lines say, from the first that is not blank on.
+use Rattle.std.proofs.Common.{◌≡◌, ℕ, List, [], ◌∷◌, Bool, true, false, refl, sym, ap, ◌∙◌}
+use Rattle.std.specs.Prelude.{Option, Some, None, Result, Ok, Err, cond}
+use Rattle.lean_fixed.specs.declared.resolution.Resolution.TheVariants.{Daily}
+use Rattle.lean_items.specs.declared.reason.Reason.{Reason}
+use Rattle.lean_items.specs.declared.reason.Reason.TheVariants.{Order, Long, Many}
+use Rattle.line_source.specs.Lines.{FileLine, TextLine, BlankLine, LongLine, ManyLine, past_blank}
+use Rattle.equity_csv.specs.declared.row.Row.{Row as FileRow}
+use Rattle.equity_csv.specs.Rows.{dated_row}
+use Rattle.clock_feeds.specs.Entries.{Entry, entries, in_order, checked, row_before}
+use Rattle.lean_top.specs.DailyFile.{Sheet, no_rows, with_row, put, sheet_of, bad_line, daily_row, starts_after, sheet_after}
+use Rattle.lean_top.specs.declared.head.Head.{Head}
+use Rattle.lean_top.specs.declared.head.Head.TheVariants.{Row, Bad, Faulted, End}
+use Rattle.lean_top.specs.Head.{IsSaid, still_to_come, IfKnown}
 
--- g stands before h
-abbrev pub stands_before : Head → Head → Bool
-stands_before h g = is_lt (head_cmp g h)
+entries-past_blank : (lines : List (ℕ × FileLine)) → entries daily_row (past_blank lines) ≡ entries daily_row lines
+entries-past_blank [] = refl
+entries-past_blank ((number, BlankLine) ∷ more) = entries-past_blank more
+entries-past_blank ((number, TextLine text) ∷ more) = refl
+entries-past_blank ((number, LongLine) ∷ more) = refl
+entries-past_blank ((number, ManyLine) ∷ more) = refl
 
-abbrev pub is_head : Head → Head → Bool
-is_head h g = (g.day == h.day) && (g.source == h.source)
+-- blank lines say nothing
+pub sheet-past_blank : (before : Option FileRow) (lines first : List (ℕ × FileLine)) → past_blank lines ≡ first → sheet_after before lines ≡ sheet_after before first
+sheet-past_blank before lines first is =
+    ap (λ es. sheet_of (in_order starts_after before es)) (sym (entries-past_blank lines) ∙ ap (entries daily_row) is)
 
-pub not_before : (h g : Head) → stands_before h g ≡ false → (h.day ≤ g.day) × (g.source < h.source → h.day < g.day)
-not_before h g no' = grind (arith, nat_tests)
+-- a row that is in order is the row that was read
+order : (t : Bool) (x row : FileRow) → cond t (Ok x) (Err Order) ≡ Ok row → x ≡ row
+order true x row e = cc
+order false x row e = cc
 
-pub is_head-parts : (h g : Head) → is_head h g ≡ true → (g.day ≡ h.day) × (g.source ≡ h.source)
-is_head-parts h g yes' = grind (arith, nat_tests)
+read_row : (before : Option FileRow) (says : Result FileRow Reason) (row : FileRow) → checked starts_after before says ≡ Ok row → says ≡ Ok row
+read_row before (Err reason) row e = cc
+read_row None (Ok x) row e = e
+read_row (Some b) (Ok x) row e = ap Ok (order (starts_after b x) x row e)
 
-module _ {X : Type 0} (day_of : X → ℕ) where
-  -- lists that rise and whose heads don't stand before h, from place i on: none has an element of a day before that of h
-  pub after_rise : (i : ℕ) (lists : List (List X)) (h : Head) → AllRise day_of 0 lists
-      → AllByRecursion (λ g. stands_before h g ≡ false) (heads day_of i lists) → AllRise day_of h.day lists
-  after_rise i [] h up least = tt
-  after_rise i ([] ∷ lists) h up least = (tt, after_rise (i + 1) lists h up.1 least)
-  after_rise i ((x ∷ xs) ∷ lists) h up least =
-      (((not_before h (record { day = day_of x; source = i }) least.0).0, up.0.1), after_rise (i + 1) lists h up.1 least.1)
+-- what the text of a line says is the head of the sheet
+said : (before : Option FileRow) (number : ℕ) (says : Result FileRow Reason) (more : List (ℕ × FileLine)) (head : Head)
+    → IsSaid number (checked starts_after before says) head
+    → IfKnown head (put number (checked starts_after before says) (sheet_of (in_order starts_after (row_before starts_after before says) (entries daily_row more))) ≡ still_to_come head more)
+said before number says more (Row daily) is = rw (is, read_row before says daily.row is) refl
+said before number says more (Bad bad) (is, line) = rw (is, ← line) refl
+said before number says more Faulted is = tt
+said before number says more End is = absurd is
 
-  -- the list whose head h is, and those around it
-  pub record Cut (i : ℕ) (lists : List (List X)) (h : Head) : Type 0 where
-    pub before : List (List X)
-    pub first : X
-    pub rest : List X
-    pub after : List (List X)
-    pub is : lists ≡ before ++ (first ∷ rest) ∷ after
-    pub place : length before + i ≡ h.source
-    pub day : day_of first ≡ h.day
-    pub before_rise : AllRise day_of (h.day + 1) before
-    pub rest_rises : Rises day_of (h.day + 1) rest
-    pub after_rise : AllRise day_of h.day after
+pub head_of_text : (before : Option FileRow) (number : ℕ) (text : List ℕ) (lines more : List (ℕ × FileLine)) (head : Head)
+    → past_blank lines ≡ (number, TextLine text) ∷ more → IsSaid number (checked starts_after before (dated_row Daily text)) head
+    → IfKnown head (sheet_after before lines ≡ still_to_come head more)
+head_of_text before number text lines more head first is =
+    rw (sheet-past_blank before lines ((number, TextLine text) ∷ more) first) (said before number (dated_row Daily text) more head is)
 
-  pub cut_at : (i : ℕ) (lists : List (List X)) (h : Head) → AllRise day_of 0 lists
-      → AllByRecursion (λ g. stands_before h g ≡ false) (heads day_of i lists)
-      → 0 < tally (is_head h) (heads day_of i lists) → Cut i lists h
-  cut_at i [] h up least some = absurd (omega arith)
-  cut_at i ([] ∷ lists) h up least some =
-      let c = cut_at (i + 1) lists h up.1 least some in
-      record {
-        before = [] ∷ c.before;
-        first = c.first;
-        rest = c.rest;
-        after = c.after;
-        is = ap (λ ls. [] ∷ ls) c.is;
-        place = omega (arith, c.place);
-        day = c.day;
-        before_rise = (tt, c.before_rise);
-        rest_rises = c.rest_rises;
-        after_rise = c.after_rise;
-      }
-  cut_at i ((x ∷ xs) ∷ lists) h up least some =
-      let here : Head = record { day = day_of x; source = i } in
-      elim (cases_Bool (is_head h here)) [
-        | inl yes' ↦ (let parts = is_head-parts h here yes' in
-            record {
-              before = [];
-              first = x;
-              rest = xs;
-              after = lists;
-              is = refl;
-              place = omega (arith, parts.1);
-              day = parts.0;
-              before_rise = tt;
-              rest_rises = rw (← parts.0) up.0.1;
-              after_rise = after_rise (i + 1) lists h up.1 least.1;
-            })
-        | inr no' ↦ (let some' = rw no' at some in
-            let c = cut_at (i + 1) lists h up.1 least.1 some' in
-            let front = not_before h here least.0 in
-            let later : h.day < day_of x = front.1 (omega (arith, c.place)) in
-            record {
-              before = (x ∷ xs) ∷ c.before;
-              first = c.first;
-              rest = c.rest;
-              after = c.after;
-              is = ap (λ ls. (x ∷ xs) ∷ ls) {y = c.before ++ (c.first ∷ c.rest) ∷ c.after} c.is;
-              place = omega (arith, c.place);
-              day = c.day;
-              before_rise = ((omega arith, up.0.1), c.before_rise);
-              rest_rises = c.rest_rises;
-              after_rise = c.after_rise;
-            })
-      ]
+pub head_of_long : (before : Option FileRow) (number : ℕ) (lines more left : List (ℕ × FileLine)) (head : Head)
+    → past_blank lines ≡ (number, LongLine) ∷ more → head ≡ Bad (bad_line number Long) → IfKnown head (sheet_after before lines ≡ still_to_come head left)
+head_of_long before number lines more left head first is =
+    rw (is, sheet-past_blank before lines ((number, LongLine) ∷ more) first) refl
 
-  pub heads-append : (i : ℕ) (before lists : List (List X)) → heads day_of i (before ++ lists) ≡ heads day_of i before ++ heads day_of (i + length before) lists
-  heads-append i [] lists = ap (λ n. heads day_of n lists) (omega arith)
-  heads-append i ([] ∷ before) lists = heads-append (i + 1) before lists ∙ ap (λ n. heads day_of (i + 1) before ++ heads day_of n lists) (omega arith)
-  heads-append i ((x ∷ xs) ∷ before) lists =
-      ap (λ hs. record { day = day_of x; source = i } ∷ hs) (heads-append (i + 1) before lists ∙ ap (λ n. heads day_of (i + 1) before ++ heads day_of n lists) (omega arith))
+pub head_of_many : (before : Option FileRow) (number : ℕ) (lines more left : List (ℕ × FileLine)) (head : Head)
+    → past_blank lines ≡ (number, ManyLine) ∷ more → head ≡ Bad (bad_line number Many) → IfKnown head (sheet_after before lines ≡ still_to_come head left)
+head_of_many before number lines more left head first is =
+    rw (is, sheet-past_blank before lines ((number, ManyLine) ∷ more) first) refl
 
-  pub AllRise-append : (n : ℕ) (before lists : List (List X)) → AllRise day_of n before → AllRise day_of n lists → AllRise day_of n (before ++ lists)
-  AllRise-append n [] lists b r = r
-  AllRise-append n (xs ∷ before) lists b r = (b.0, AllRise-append n before lists b.1 r)
+pub head_of_end : (before : Option FileRow) (lines : List (ℕ × FileLine)) → past_blank lines ≡ [] → sheet_after before lines ≡ no_rows None
+head_of_end before lines first = sheet-past_blank before lines [] first

@@ -1,12 +1,8 @@
 -- How what was printed adds up.
 use Rattle.std.proofs.Common.{◌≡◌, ℕ, ◌≤◌, List, [], ◌++◌, refl, sym, ap, ◌∙◌, take, drop, take-append-drop, append_assoc, append-nil, Option, Some, None, Result, Ok, Err, length, length-append, arith, ◌∷◌, ◌+◌}
-use Rattle.std.specs.Prelude.{option_map, flat_map, OnErr}
+use Rattle.std.specs.Prelude.{option_map, flat_map, OnErr, OnOk}
 use Rattle.std.proofs.lemmas.Grind.{flat_map-append}
-use Rattle.equity_csv.specs.declared.row.Row.{Row}
-use Rattle.lean_top.specs.declared.tape.Tape.{Tape}
-use Rattle.lean_top.specs.DailyTape.{tape_line, tape_text, end_line}
 use Rattle.lean_top.specs.Printed.{IsTaken, IsPrinted, IsFront}
-use Rattle.lean_top.specs.Tape.{left, IsReady}
 
 pub IsTaken-nothing : (told : Option (List ℕ)) → IsTaken told told []
 IsTaken-nothing None = refl
@@ -61,15 +57,6 @@ IsFront-printed before after page next a b p = record {
   whole = sym (append_assoc page a b) ∙ rw p.rest (append_assoc p.written next b);
 }
 
--- how far the printing of a tape has come
-pub record Progress (first tape : Tape) (rows : ℕ) (before after : Option (List ℕ)) (page new : List ℕ) (faults now : ℕ) : Type 0 where
-  pub ready : IsReady tape
-  pub done : List (List ℕ × Row)
-  pub whole : left first ≡ done ++ left tape
-  pub counted : rows ≡ length done
-  pub printed : IsPrinted before after page new (flat_map tape_line done)
-  pub grows : faults ≤ now
-
 pub on_err : {A E : Type 0} (r : Result A E) (P : Type 0) → P → OnErr r P
 on_err (Ok x) P h = tt
 on_err (Err e) P h = h
@@ -78,34 +65,6 @@ pub on_err-map : {A E : Type 0} (r : Result A E) (P Q : Type 0) → (P → Q) �
 on_err-map (Ok x) P Q f h = tt
 on_err-map (Err e) P Q f h = f h
 
-module _ (first tape : Tape) (rows : ℕ) (before after : Option (List ℕ)) (page new : List ℕ) (faults now : ℕ)
-    (progress : Progress first tape rows before after page new faults now) (entry : List ℕ × Row) (later : List (List ℕ × Row)) (next : left tape ≡ entry ∷ later) where
-  -- the sink stops at the next line
-  pub Progress-front : (third : Option (List ℕ)) → IsFront after third (new ++ tape_line entry) → IsFront before third (page ++ flat_map tape_line (left first))
-  Progress-front third front =
-      let more : IsFront after third (new ++ (tape_line entry ++ flat_map tape_line later)) =
-      rw (← append_assoc new (tape_line entry) (flat_map tape_line later)) (IsFront-more after third (new ++ tape_line entry) (flat_map tape_line later) front) in
-      rw (progress.whole, next, flat_map-append)
-      (IsFront-behind before after third page new (flat_map tape_line progress.done) (tape_line entry ++ flat_map tape_line later) progress.printed more)
-
-  -- one more line is printed
-  pub Progress-more : (tape' : Tape) (third : Option (List ℕ)) (last : List ℕ) (now' : ℕ) → later ≡ left tape' → IsReady tape'
-      → IsPrinted after third new last (tape_line entry) → now ≤ now' → Progress first tape' (rows + 1) before third page last faults now'
-  Progress-more tape' third last now' is ready printed grows = record {
-    ready = ready;
-    done = progress.done ++ entry ∷ [];
-    whole = progress.whole ∙ rw (next, is) (sym (append_assoc progress.done (entry ∷ []) (left tape')));
-    counted = omega (arith, progress.counted, length-append progress.done (entry ∷ []));
-    printed = rw (flat_map-append, append-nil)
-        (IsPrinted-append before after third page new last (flat_map tape_line progress.done) (tape_line entry) progress.printed printed);
-    grows = omega (arith, progress.grows, grows);
-  }
-
--- a front of the last page is one of the whole text
-pub IsFront-text : (before after last : Option (List ℕ)) (page new ended : List ℕ) (rows : ℕ) (entries : List (List ℕ × Row))
-    → page ≡ [] → rows ≡ length entries → IsPrinted before after page new (flat_map tape_line entries) → ended ≡ new ++ end_line rows
-    → IsFront after last ended → IsFront before last (tape_text entries)
-IsFront-text before after last page new ended rows entries none counted printed is front =
-    let front' : IsFront after last (new ++ end_line (length entries)) = rw (is, counted) at front in
-    let printed' : IsPrinted before after [] new (flat_map tape_line entries) = rw none at printed in
-    IsFront-behind before after last [] new (flat_map tape_line entries) (end_line (length entries)) printed' front'
+pub on_ok : {A E : Type 0} (r : Result A E) (P : Type 0) → P → OnOk r P
+on_ok (Ok x) P h = h
+on_ok (Err e) P h = tt

@@ -1,64 +1,62 @@
--- The rows of a daily file.
-use Rattle.std.specs.Prelude.{ℕ, ◌+◌, Bool, true, ◌&&◌, nat_le, if◌then◌else◌, int_lt, List, [], ◌∷◌, ◌++◌, map, filter_map, length, codes, Option, Some, None, option_map, option_and_then, Result, Ok, Err}
+-- What a daily file says: its rows up to the first malformed line, and that line.
+use Rattle.std.specs.Prelude.{ℕ, Bool, int_lt, List, [], ◌∷◌, Option, Some, None, option_map, Result, Ok, Err}
 use Rattle.lean_fixed.specs.declared.resolution.Resolution.TheVariants.{Daily}
 use Rattle.lean_io.specs.Told.{Files}
-use Rattle.lean_io.specs.Lines.{Line, Text, Blank, Long, Many, lines}
+use Rattle.line_source.specs.Lines.{FileLine, lines}
+use Rattle.lean_items.specs.declared.bad.Bad.{Bad}
+use Rattle.lean_items.specs.declared.feed_key.FeedKind.TheVariants.{Equity}
+use Rattle.feed_paths.specs.Paths.{path_of}
 use Rattle.lean_items.specs.declared.reason.Reason.{Reason}
-use Rattle.lean_items.specs.declared.reason.Reason.TheVariants.{Long as TooLong, Many as TooMany}
 use Rattle.equity_csv.specs.declared.row.Row.{Row}
 use Rattle.equity_csv.specs.Rows.{dated_row}
+use Rattle.clock_feeds.specs.Entries.{Entry, entries, in_order}
 
--- what a line says: nothing where it is blank, and otherwise a row or the reason why it is none
-abbrev pub entry_of : Line → Option (Result Row Reason)
-entry_of Blank = None
-entry_of (Text text) = Some (dated_row Daily text)
-entry_of Long = Some (Err TooLong)
-entry_of Many = Some (Err TooMany)
+-- what the text of a line says
+abbrev pub daily_row : List ℕ → Option (Result Row Reason)
+daily_row text = Some (dated_row Daily text)
 
-abbrev pub entries_of : List (ℕ × Line) → List (Result Row Reason)
-entries_of numbered = filter_map (λ line. entry_of line.1) numbered
+abbrev pub starts_after : Row → Row → Bool
+starts_after before row = int_lt before.start.0 row.start.0
 
--- the rows, where all entries are rows
-abbrev pub all_rows : List (Result Row Reason) → Option (List Row)
-all_rows [] = Some []
-all_rows (Err _ ∷ _) = None
-all_rows (Ok row ∷ entries) = option_map (λ rows. row ∷ rows) (all_rows entries)
+-- the rows before the first malformed line of a file, and that line where there is one
+pub record Sheet : Type 0 where
+  pub rows : List Row
+  pub stop : Option Bad
 
--- each of the rows starts after the one before it, and the first after the given one
-abbrev pub rising_after : Row → List Row → Bool
-rising_after before [] = true
-rising_after before (row ∷ rows) = int_lt before.start.0 row.start.0 && rising_after row rows
+abbrev pub no_rows : Option Bad → Sheet
+no_rows stop = record { rows = []; stop = stop }
 
-abbrev pub rising : List Row → Bool
-rising [] = true
-rising (row ∷ rows) = rising_after row rows
+abbrev pub with_row : Row → Sheet → Sheet
+with_row row later = record { rows = row ∷ later.rows; stop = later.stop }
 
--- a row starts after the last of some rows
-abbrev pub comes_after : List Row → Row → Bool
-comes_after [] row = true
-comes_after (before ∷ []) row = int_lt before.start.0 row.start.0
-comes_after (before ∷ next ∷ rows) row = comes_after (next ∷ rows) row
+-- a malformed line of the file, which is the only one of its feed
+abbrev pub bad_line : ℕ → Reason → Bad
+bad_line line reason = record { file = 0; line = line; reason = reason }
 
-abbrev pub in_order : List Row → Option (List Row)
-in_order rows = if rising rows then Some rows else None
+abbrev pub put : ℕ → Result Row Reason → Sheet → Sheet
+put line (Ok row) later = with_row row later
+put line (Err reason) later = no_rows (Some (bad_line line reason))
 
--- the rows of a file's bytes, or nothing where a line is malformed: it is no row, or its row doesn't start after the one before
-abbrev pub file_rows : List ℕ → Option (List Row)
-file_rows bytes = option_and_then in_order (all_rows (entries_of (lines bytes)))
+abbrev pub sheet_of : List (Entry Row) → Sheet
+sheet_of [] = no_rows None
+sheet_of (entry ∷ more) = put entry.line entry.says (sheet_of more)
 
--- 'A' to 'Z' as 'a' to 'z'
-abbrev pub lower_case : ℕ → ℕ
-lower_case b = if nat_le 65 b && nat_le b 90 then b + 32 else b
+-- what lines say behind a row of their file, where there is one
+abbrev pub sheet_after : Option Row → List (ℕ × FileLine) → Sheet
+sheet_after before more = sheet_of (in_order starts_after before (entries daily_row more))
 
--- the path of a security's daily file, after LEAN's folder layout
+-- a file that is not there has no rows
+abbrev pub file_sheet : Option (List (ℕ × FileLine)) → Sheet
+file_sheet None = no_rows None
+file_sheet (Some all) = sheet_after None all
+
+-- the path of a security's daily file
 abbrev pub daily_path : List ℕ → List ℕ
-daily_path symbol = codes "equity/usa/daily/" ++ map lower_case symbol ++ codes ".csv"
+daily_path symbol = path_of (Equity symbol Daily) 0
 
--- a file that isn't there has no rows, and one of more than 1,048,576 bytes is refused like one with a malformed line
-abbrev pub rows_of : Option (List ℕ) → Option (List Row)
-rows_of None = Some []
-rows_of (Some bytes) = if nat_le (length bytes) 1_048_576 then file_rows bytes else None
+-- the numbered lines of a security's daily file, where there is one
+abbrev pub daily_lines : Files → List ℕ → Option (List (ℕ × FileLine))
+daily_lines files symbol = option_map lines (files (daily_path symbol))
 
--- the rows of a security, or nothing where its file is refused
-abbrev pub daily_rows : Files → List ℕ → Option (List Row)
-daily_rows files symbol = rows_of (files (daily_path symbol))
+abbrev pub daily_sheet : Files → List ℕ → Sheet
+daily_sheet files symbol = file_sheet (daily_lines files symbol)

@@ -1,52 +1,108 @@
--- The daily tape: what is printed of the daily files of several securities.
-use Rattle.std.specs.Prelude.{ℕ, ◌+◌, unsigned_abs, List, [], ◌∷◌, ◌++◌, map, flat_map, find, length, codes, decimal, Option, Some, None, unwrap_or, is_none}
+-- The daily tape: a report that walks the days. Step 0 comes before any day, step 1 is 1970-01-01, and the last step 2199-12-31.
+use Rattle.std.specs.Prelude.{ℕ, ◌+◌, ◌==◌, nat_le, if◌then◌else◌, unsigned_abs, List, [], ◌∷◌, ◌++◌, map, filter, flat_map, length, codes, decimal, Option, Some, None, option_map}
+use Rattle.std.specs.List.{list_all}
+use Rattle.std.specs.Option.{option_or}
 use Rattle.lean_fixed.specs.Calendar.{last_day}
 use Rattle.lean_fixed.specs.Printed.{day_text, money_text}
 use Rattle.lean_io.specs.Told.{Files}
+use Rattle.lean_items.specs.declared.bad.Bad.{Bad}
+use Rattle.lean_items.specs.Reasons.{reason_text}
 use Rattle.equity_csv.specs.declared.row.Row.{Row}
+use Rattle.clock_steps.specs.Runs.{Ran, run, run_to}
 use Rattle.lean_top.specs.declared.status.Status.{Status}
 use Rattle.lean_top.specs.declared.status.Status.TheVariants.{Done, BadRow}
-use Rattle.lean_top.specs.ByDay.{day_by_day}
-use Rattle.lean_top.specs.Entry.{day_of}
-use Rattle.lean_top.specs.DailyFile.{daily_rows, daily_path}
+use Rattle.lean_top.specs.Entry.{row_day}
+use Rattle.lean_top.specs.DailyFile.{Sheet, daily_sheet, daily_path}
+
+-- a security and what its daily file says
+pub record Security : Type 0 where
+  pub symbol : List ℕ
+  pub sheet : Sheet
+
+-- a row and a malformed line, each with its symbol
+abbrev pub TapeRow : Type 0
+TapeRow = List ℕ × Row
+
+abbrev pub Refusal : Type 0
+Refusal = List ℕ × Bad
+
+abbrev pub named : List ℕ → Row → TapeRow
+named symbol row = (symbol, row)
+
+abbrev pub refusal : List ℕ → Bad → Refusal
+refusal symbol bad = (symbol, bad)
+
+-- the step of the day on which a row starts
+abbrev pub step_of : Row → ℕ
+step_of row = row_day row + 1
+
+-- the rows of a security at a step
+abbrev pub rows_at : ℕ → Security → List TapeRow
+rows_at step security = map (named security.symbol) (filter (λ row. step_of row == step) security.sheet.rows)
+
+-- a malformed line is due where all the rows before it stand at this step or an earlier one
+abbrev pub due_of : ℕ → Security → Option Refusal
+due_of step security =
+    if list_all (λ row. nat_le (step_of row) step) security.sheet.rows
+    then option_map (refusal security.symbol) security.sheet.stop else None
+
+-- the first of the securities whose malformed line is due
+abbrev pub due : ℕ → List Security → Option Refusal
+due step [] = None
+due step (security ∷ more) = option_or (due_of step security) (due step more)
+
+-- A step prints the rows of all the securities in their order, and then stops where a malformed line is due.
+abbrev pub tape_step : List Security → ℕ → Unit {0} → Ran (Unit {0}) TapeRow Refusal
+tape_step securities step u =
+    record { lines = flat_map (rows_at step) securities; state = u; stop = due step securities }
+
+-- so many steps from step 0 on
+abbrev pub tape_steps : List Security → ℕ → Ran (Unit {0}) TapeRow Refusal
+tape_steps securities count = run (tape_step securities) count 0 tt
+
+-- all of them
+abbrev pub tape : List Security → Ran (Unit {0}) TapeRow Refusal
+tape securities = run_to (tape_step securities) 0 (last_day + 1) tt
 
 -- a part of a line, behind a space
 abbrev pub part : List ℕ → List ℕ
 part text = 32 ∷ text
 
 -- the line of a row: its day, symbol, opening, high, low and closing price, and volume
-unfoldable pub tape_line : List ℕ × Row → List ℕ
+unfoldable pub tape_line : TapeRow → List ℕ
 tape_line (symbol, row) =
-    day_text (day_of (symbol, row)) ++ part symbol
+    day_text (row_day row) ++ part symbol
     ++ part (money_text row.opening.0) ++ part (money_text row.high.0) ++ part (money_text row.low.0) ++ part (money_text row.closing.0)
     ++ part (decimal (unsigned_abs row.volume.0)) ++ 10 ∷ []
 
--- the last line, with the number of rows
+-- the last line of a whole tape, with the number of rows
 abbrev pub end_line : ℕ → List ℕ
 end_line n = codes "end " ++ decimal n ++ codes " rows\n"
 
-abbrev pub tape_text : List (List ℕ × Row) → List ℕ
-tape_text entries = flat_map tape_line entries ++ end_line (length entries)
+-- the line that names a malformed line: the path of its file, its number, and the reason
+unfoldable pub data_line : Refusal → List ℕ
+data_line (symbol, bad) =
+    codes "data " ++ daily_path symbol ++ codes " line " ++ decimal bad.line ++ part (reason_text bad.reason) ++ 10 ∷ []
 
--- the rows of a security, each with its symbol
-abbrev pub entries_of : Files → List ℕ → List (List ℕ × Row)
-entries_of files symbol = map (λ row. (symbol, row)) (unwrap_or (daily_rows files symbol) [])
+-- the last line of a tape of so many rows, and its status
+abbrev pub last_line : ℕ → Option Refusal → List ℕ × Status
+last_line rows None = (end_line rows, Done)
+last_line rows (Some refusal) = (data_line refusal, BadRow)
 
--- For each day from 1970-01-01 to 2199-12-31, and for each security in the order of the words: its rows of that day.
-abbrev pub tape_entries : Files → List (List ℕ) → List (List ℕ × Row)
-tape_entries files symbols = day_by_day day_of (last_day + 1) (map (entries_of files) symbols)
+abbrev pub tape_text : List TapeRow → List ℕ
+tape_text rows = flat_map tape_line rows
 
--- the line that names a file which is refused
-abbrev pub unbuilt_line : List ℕ → List ℕ
-unbuilt_line symbol = codes "unbuilt " ++ daily_path symbol ++ 10 ∷ []
+abbrev pub tape_report_of : Ran (Unit {0}) TapeRow Refusal → List ℕ × Status
+tape_report_of ran =
+    let last = last_line (length ran.lines) ran.stop in
+    (tape_text ran.lines ++ last.0, last.1)
 
--- The report where a file is refused, of which the first in the order of the words is named, or where none is.
-abbrev pub tape_report_at : Option (List ℕ) → Files → List (List ℕ) → List ℕ × Status
-tape_report_at (Some symbol) files symbols = (unbuilt_line symbol, BadRow)
-tape_report_at None files symbols = (tape_text (tape_entries files symbols), Done)
+-- the securities of the words, in their order
+abbrev pub security : Files → List ℕ → Security
+security files symbol = record { symbol = symbol; sheet = daily_sheet files symbol }
 
-abbrev pub first_refused : Files → List (List ℕ) → Option (List ℕ)
-first_refused files symbols = find (λ symbol. is_none (daily_rows files symbol)) symbols
+abbrev pub securities : Files → List (List ℕ) → List Security
+securities files symbols = map (security files) symbols
 
 abbrev pub tape_report : Files → List (List ℕ) → List ℕ × Status
-tape_report files symbols = tape_report_at (first_refused files symbols) files symbols
+tape_report files symbols = tape_report_of (tape (securities files symbols))

@@ -1,66 +1,79 @@
 -- How a command ends: with the whole report, or cut short for a named cause.
-use Rattle.std.specs.Prelude.{◌≡◌, ℕ, ◌⊎◌, List, ◌++◌, Option, Some}
-use Rattle.lean_io.specs.Told.{Rose}
+use Rattle.std.specs.Prelude.{◌≡◌, ℕ, ◌≤◌, ◌⊎◌, List, ◌++◌, Option, Some, None, IsSome}
+use Rattle.lean_io.specs.Told.{Files, Rose}
+use Rattle.clock_steps.specs.Runs.{IsFrontOf}
 use Rattle.lean_top.specs.declared.status.Status.{Status}
-use Rattle.lean_top.specs.declared.status.Status.TheVariants.{ReadFault, WriteFault, NoMemory}
-use Rattle.lean_top.specs.declared.print.Stop.{Stop}
-use Rattle.lean_top.specs.declared.print.Stop.TheVariants.{NoMemory as OutOfMemory, ReadFault as FailedRead, WriteFault as FailedWrite}
-use Rattle.lean_top.specs.Printed.{IsTaken, IsFront}
+use Rattle.lean_top.specs.declared.status.Status.TheVariants.{Usage, BadRow, ReadFault, WriteFault, NoMemory}
+use Rattle.lean_top.specs.Command.{command}
+use Rattle.lean_top.specs.DailyTape.{TapeRow, securities, tape, tape_text}
+use Rattle.lean_top.specs.Endings.{IsWhole}
+use Rattle.lean_top.specs.Report.{report}
 
--- the counts of faults of the folder and of the sink
-pub record Counts : Type 0 where
+-- What is seen of a folder and a sink at one time: the files, where the folder tells them, the bytes, where the sink tells
+-- them, and both counts of faults.
+pub record Seen : Type 0 where
+  pub files : Option Files
+  pub told : Option (List ℕ)
   pub folder : ℕ
   pub sink : ℕ
 
 -- A status that ends a report before its end, with its cause. Want of memory needs none.
-abbrev pub IsStop : Counts → Counts → Status → Type 0
+abbrev pub IsStop : Seen → Seen → Status → Type 0
 IsStop old new NoMemory = Unit {0}
 IsStop old new ReadFault = Rose old.folder new.folder
 IsStop old new WriteFault = Rose old.sink new.sink
 IsStop old new _ = ⊥
 
--- where a fault of the outside is the status, its count rose
-abbrev pub HasStatusCause : Counts → Counts → Status → Type 0
-HasStatusCause old new ReadFault = Rose old.folder new.folder
-HasStatusCause old new WriteFault = Rose old.sink new.sink
-HasStatusCause old new _ = Unit {0}
-
--- the status of a stop
-abbrev pub stop_status : Stop → Status
-stop_status OutOfMemory = NoMemory
-stop_status FailedRead = ReadFault
-stop_status FailedWrite = WriteFault
-
--- a stop for the sink alone
-abbrev pub IsSinkStop : ℕ → ℕ → Status → Type 0
-IsSinkStop before now NoMemory = Unit {0}
-IsSinkStop before now WriteFault = Rose before now
-IsSinkStop before now _ = ⊥
-
--- The same of what is printed with no further read.
-abbrev pub Prints : List ℕ × Status → Option (List ℕ) → Option (List ℕ) → ℕ → ℕ → Status → Type 0
-Prints want before after faults now status =
-    ((status ≡ want.1) × IsTaken before after want.0) ⊎ (IsSinkStop faults now status × IsFront before after want.0)
-
--- the sink took the whole report and the status is the report's, or it took a front of it and the status is a stop
-abbrev pub Delivers : List ℕ × Status → Option (List ℕ) → Option (List ℕ) → Counts → Counts → Status → Type 0
-Delivers want before after old new status =
-    ((status ≡ want.1) × IsTaken before after want.0) ⊎ (IsStop old new status × IsFront before after want.0)
-
-pub record IsPrefix (front whole : List ℕ) : Type 0 where
-  pub rest : List ℕ
-  pub is : whole ≡ front ++ rest
-
--- These bytes and this status are the report's; or the bytes are a prefix of the report's, and the status is a stop.
-abbrev pub Ends : List ℕ × Status → List ℕ → Counts → Counts → Status → Type 0
-Ends want bytes old new status = ((bytes, status) ≡ want) ⊎ (IsPrefix bytes want.0 × IsStop old new status)
+-- These bytes and this status are the report's; or the bytes are a front of the report's, and the status is a stop.
+abbrev pub Ends : List ℕ × Status → List ℕ → Seen → Seen → Status → Type 0
+Ends want bytes old new status = ((bytes, status) ≡ want) ⊎ (IsFrontOf bytes want.0 × IsStop old new status)
 
 -- what the sink tells is what it told before and then bytes with which the command ends
-abbrev pub Meets : List ℕ × Status → List ℕ → Option (List ℕ) → Counts → Counts → Status → Type 0
-Meets want before told old new status = (bytes : List ℕ) × (told ≡ Some (before ++ bytes)) × Ends want bytes old new status
+abbrev pub Meets : List ℕ × Status → List ℕ → Seen → Seen → Status → Type 0
+Meets want before old new status = (bytes : List ℕ) × (new.told ≡ Some (before ++ bytes)) × Ends want bytes old new status
 
 -- nothing but want of memory cut the report short
 abbrev pub IsComplete : List ℕ × Status → List ℕ → Option (List ℕ) → Status → Type 0
 IsComplete want before told status =
     ((status ≡ want.1) × (told ≡ Some (before ++ want.0)))
-    ⊎ ((status ≡ NoMemory) × ((bytes : List ℕ) × (told ≡ Some (before ++ bytes)) × IsPrefix bytes want.0))
+    ⊎ ((status ≡ NoMemory) × ((bytes : List ℕ) × (told ≡ Some (before ++ bytes)) × IsFrontOf bytes want.0))
+
+-- A status comes exactly where a fact holds; it yields to want of memory and to a fault of the outside alone.
+pub record ComesExactly (P : Type 0) (status result : Status) : Type 0 where
+  pub only : result ≡ status → P
+  pub always : P → (result ≡ status) ⊎ ((result ≡ NoMemory) ⊎ ((result ≡ ReadFault) ⊎ (result ≡ WriteFault)))
+
+-- the words are none that are taken
+abbrev pub AreRefused : List (List ℕ) → Type 0
+AreRefused words = command words ≡ None
+
+-- the words are taken, and a malformed line stops their tape
+abbrev pub HasBadRow : Files → List (List ℕ) → Type 0
+HasBadRow files words = (symbols : List (List ℕ)) × (command words ≡ Some symbols) × IsSome (tape (securities files symbols)).stop
+
+-- what was printed of the tape of the words is the lines of whole days, up to some one, or nothing
+abbrev pub IsWholeDays : Files → List (List ℕ) → List ℕ → Option (List ℕ) → Type 0
+IsWholeDays files words before told =
+    (symbols : List (List ℕ)) × (command words ≡ Some symbols)
+    × ((rows : List TapeRow) × IsWhole (securities files symbols) rows × (told ≡ Some (before ++ tape_text rows)))
+
+-- What a command line has done, from what was seen before it to what is seen after it.
+pub record HasRun (words : List (List ℕ)) (old new : Seen) (status : Status) : Type 0 where
+  -- the printed bytes and the status are those of the report over the folder's files, or they are cut short for a cause
+  pub headline : (files : Files) (before : List ℕ) → old.files ≡ Some files → old.told ≡ Some before
+      → Meets (report files words) before old new status
+  -- where no count of faults rose, nothing but want of memory cuts them short
+  pub complete : (files : Files) (before : List ℕ) → old.files ≡ Some files → old.told ≡ Some before
+      → ¬ Rose old.folder new.folder → ¬ Rose old.sink new.sink → IsComplete (report files words) before new.told status
+  -- the causes of the statuses, whatever the folder and the sink tell
+  pub usage : ComesExactly (AreRefused words) Usage status
+  pub bad_row : (files : Files) → old.files ≡ Some files → ComesExactly (HasBadRow files words) BadRow status
+  pub read_fault : status ≡ ReadFault → Rose old.folder new.folder
+  pub write_fault : status ≡ WriteFault → Rose old.sink new.sink
+  -- a failed read stops the tape where its row is needed, behind the lines of whole days
+  pub whole_days : status ≡ ReadFault → (files : Files) (before : List ℕ) → old.files ≡ Some files → old.told ≡ Some before
+      → IsWholeDays files words before new.told
+  -- what the folder tells stays, and no count falls
+  pub kept : new.files ≡ old.files
+  pub folder_grows : old.folder ≤ new.folder
+  pub sink_grows : old.sink ≤ new.sink

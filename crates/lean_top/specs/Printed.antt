@@ -2,7 +2,7 @@
 use Rattle.std.specs.Prelude.{◌≡◌, ◌<◌, ℕ, List, ◌++◌, length, Option, option_map}
 use Rattle.lean_io.specs.Told.{Rose}
 use Rattle.lean_top.specs.declared.print.Stop.{Stop}
-use Rattle.lean_top.specs.declared.print.Stop.TheVariants.{NoMemory, ReadFault, WriteFault}
+use Rattle.lean_top.specs.declared.print.Stop.TheVariants.{NoMemory, WriteFault}
 
 -- the sink took these bytes
 abbrev pub IsTaken : Option (List ℕ) → Option (List ℕ) → List ℕ → Type 0
@@ -25,7 +25,6 @@ pub record IsFront (before after : Option (List ℕ)) (bytes : List ℕ) : Type 
 abbrev pub HasCause : ℕ → ℕ → Stop → Type 0
 HasCause before now NoMemory = Unit {0}
 HasCause before now WriteFault = Rose before now
-HasCause before now ReadFault = ⊥
 
 -- fewer than 65,536 bytes, so that another line may be put on the page
 abbrev pub HasRoom : List ℕ → Type 0

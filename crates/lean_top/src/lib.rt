@@ -3,11 +3,10 @@
 //! status names the cause.
 #![tactic(auto)]
 
-mod daily_file;
+mod daily_row;
 mod daily_tape;
-mod heads;
+mod head;
 mod line;
-mod lines;
 mod path;
 mod print;
 mod report;
@@ -15,8 +14,6 @@ mod source;
 mod sources;
 mod status;
 mod tape;
-#[cfg(test)]
-mod tests;
 mod top;
 mod words;
 

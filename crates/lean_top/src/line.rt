@@ -1,15 +1,17 @@
 //! The lines of the daily tape.
-ghost use Rattle.std.specs.Prelude.{◌≡◌, ◌++◌, ◌≤ℤ◌, pos, unsigned_abs, OnOk};
+ghost use Rattle.std.specs.Prelude.{◌≡◌, ◌++◌, unsigned_abs, OnOk};
 ghost use Rattle.lean_fixed.specs.Printed.{money_text};
 ghost use Rattle.lean_top.specs.Entry.{row_day, IsDaily};
-ghost use Rattle.lean_top.specs.DailyTape.{part, tape_line, end_line};
+ghost use Rattle.lean_fixed.specs.Ranges.{IsDay};
+ghost use Rattle.lean_top.specs.DailyTape.{part, tape_line, end_line, data_line};
 
+use crate::path::daily_path;
 use equity_csv::Row;
 use itoa::Buffer;
+use lean_fixed::ranges::MINUTES_PER_DAY;
 use lean_fixed::{Day, NoMemory, Price, Symbol, day_text, price_text};
-
-/// The minutes of a day.
-const DAY: i64 = 1440;
+use lean_items::Bad;
+use std::alloc::Global;
 
 /// Appends the line of a row.
 pub fn append_line(symbol: &Symbol, row: &Row, page: &mut Vec<u8>) -> Result<(), NoMemory>
@@ -37,6 +39,24 @@ pub fn append_end(rows: u64, page: &mut Vec<u8>) -> Result<(), NoMemory>
     Ok(())
 }
 
+/// Appends the line that names a malformed line of a security's daily file.
+pub fn append_refusal(
+    alloc: Global,
+    symbol: &Symbol,
+    bad: &Bad,
+    page: &mut Vec<u8>,
+) -> Result<(), NoMemory>
+    ensures { OnOk result (page.new.items ≡ page.old.items ++ data_line (symbol.now, bad.now)) }
+{
+    page.extend_from_slice(b"data ")?;
+    page.extend_from_slice(daily_path(alloc, symbol)?.as_bytes())?;
+    page.extend_from_slice(b" line ")?;
+    page.extend_from_slice(Buffer::new().format(bad.line).as_bytes())?;
+    append_part(bad.reason.word().as_bytes(), page)?;
+    page.push(b'\n')?;
+    Ok(())
+}
+
 fn append_part(text: &[u8], page: &mut Vec<u8>) -> Result<(), NoMemory>
     ensures { OnOk result (page.new.items ≡ page.old.items ++ part text.now) }
 {
@@ -56,10 +76,9 @@ fn append_price(price: Price, page: &mut Vec<u8>) -> Result<(), NoMemory>
 fn day_of(row: &Row) -> Day
     requires { IsDaily row.now }
     ensures value { unsigned_abs result.0 ≡ row_day row.now }
-    ensures low { pos 0 ≤ℤ result.0 }
-    ensures high { result.0 ≤ℤ pos 84005 }
+    ensures range { IsDay result.0 }
 {
-    Day((row.start.0 / DAY) as i32)
+    Day((row.start.0 / MINUTES_PER_DAY as i64) as i32)
 }
 
 fn volume_of(row: &Row) -> u64

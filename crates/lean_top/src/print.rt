@@ -6,11 +6,10 @@ use lean_fixed::NoMemory;
 use lean_io::{Sink, WriteFault, write_whole};
 use std::alloc::{AllocError, AllocFailed};
 
-/// Why a report ends before its end.
+/// Why what is printed ends before its end.
 #[derive(Clone, Copy, Debug, PartialEq, Eq)]
 pub enum Stop {
     NoMemory,
-    ReadFault,
     WriteFault,
 }
 

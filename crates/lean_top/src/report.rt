@@ -1,27 +1,22 @@
 //! The command line from its words to its report.
-ghost use Rattle.std.specs.Prelude.{◌≡◌, ◌+◌, ◌^◌, ◌≤◌, ◌<◌, List, ℕ, Some, None, map, length, string_bytes, codes, IfOk};
+ghost use Rattle.std.specs.Prelude.{◌≡◌, ◌≤◌, List, ℕ, Some, None, map, length, string_bytes};
+ghost use Rattle.std.specs.List.{AllByRecursion, AllZip};
 ghost use Rattle.lean_io.specs.Told.{Files, Rose};
-ghost use Rattle.lean_fixed.specs.Calendar.{last_day};
-ghost use Rattle.lean_top.specs.ByDay.{day_by_day, AllRise};
 ghost use Rattle.lean_top.specs.Command.{command};
-ghost use Rattle.lean_top.specs.Causes.{AreRefused, NamesNoUsage};
-ghost use Rattle.lean_top.specs.DailyTape.{tape_report, tape_text, unbuilt_line};
-ghost use Rattle.lean_top.specs.Ending.{Counts, HasStatusCause, Prints, Delivers, stop_status};
-ghost use Rattle.lean_top.specs.Entry.{day_of};
-ghost use Rattle.lean_top.specs.Gathered.{IsSmall, answer_to};
-ghost use Rattle.lean_top.specs.Report.{report};
-ghost use Rattle.lean_top.specs.Tape.{left, IsReady};
+ghost use Rattle.lean_top.specs.DailyTape.{Security, securities};
+ghost use Rattle.lean_top.specs.Endings.{HasFaulted};
+ghost use Rattle.lean_top.specs.Outcome.{stop_status, HasTaped, HasUsage, HasStatusCause, HasTapeCause, NamesNoUsage};
+ghost use Rattle.lean_top.specs.Source.{IsSound, Follows};
+ghost use Rattle.lean_top.specs.Steps.{AllPast};
 
-use crate::daily_tape::print_tape;
-use crate::path::daily_path;
 use crate::print::Stop;
 use crate::source::Source;
-use crate::sources::{Sources, read_sources};
+use crate::sources::{give_back, open_sources};
 use crate::status::Status;
-use crate::tape::Tape;
+use crate::tape::print_tape;
 use crate::words::read_words;
 use lean_fixed::{NoMemory, Symbol};
-use lean_io::{Folder, Sink, WriteFault, write_whole};
+use lean_io::{Folder, Hand, Sink, WriteFault, write_whole};
 use std::alloc::Global;
 
 /// Runs a command line.
@@ -31,28 +26,27 @@ pub fn run<F: Folder, S: Sink>(
     folder: &mut F,
     out: &mut S,
 ) -> Status
-    ensures told { (f : Files) → F.files folder.old ≡ Some f → Delivers (report f (map string_bytes words.now)) (S.told out.old) (S.told out.new)
-        (record { folder = F.faults folder.old; sink = S.faults out.old })
-        (record { folder = F.faults folder.new; sink = S.faults out.new }) result }
-    ensures cause { HasStatusCause
-        (record { folder = F.faults folder.old; sink = S.faults out.old })
-        (record { folder = F.faults folder.new; sink = S.faults out.new }) result }
-    ensures refused { AreRefused (map string_bytes words.now)
-        → Prints (codes "usage\n", Status.Usage) (S.told out.old) (S.told out.new) (S.faults out.old) (S.faults out.new) result }
-    ensures taken { (symbols : List (List ℕ)) → command (map string_bytes words.now) ≡ Some symbols → NamesNoUsage result }
-    ensures quiet { result ≡ Status.ReadFault → S.told out.new ≡ S.told out.old }
+    ensures taped { (f : Files) (symbols : List (List ℕ)) → F.files folder.old ≡ Some f
+        → command (map string_bytes words.now) ≡ Some symbols
+        → HasTaped (securities f symbols) (S.told out.old) (S.told out.new) result }
+    ensures refused { command (map string_bytes words.now) ≡ None
+        → HasUsage (S.told out.old) (S.told out.new) result }
+    ensures taken { (symbols : List (List ℕ))
+        → command (map string_bytes words.now) ≡ Some symbols → NamesNoUsage result }
+    ensures cause { HasStatusCause (F.faults folder.old) (F.faults folder.new)
+        (S.faults out.old) (S.faults out.new) result }
     ensures kept { F.files folder.new ≡ F.files folder.old }
     ensures folder_grows { F.faults folder.old ≤ F.faults folder.new }
     ensures sink_grows { S.faults out.old ≤ S.faults out.new }
 {
     match read_words(alloc, words) {
         Ok(Some(symbols)) => daily_tape(alloc, &symbols, folder, out),
-        Ok(None) => print_line(b"usage\n", Status::Usage, out),
+        Ok(None) => print_usage(out),
         Err(NoMemory) => Status::NoMemory,
     }
 }
 
-/// Prints the daily tape of the securities, or names the first file that is refused.
+// Prints the daily tape of the securities.
 fn daily_tape<F: Folder, S: Sink>(
     alloc: Global,
     symbols: &[Symbol],
@@ -60,92 +54,53 @@ fn daily_tape<F: Folder, S: Sink>(
     out: &mut S,
 ) -> Status
     requires { length symbols.now ≤ 64 }
-    ensures told { (f : Files) → F.files folder.old ≡ Some f → Delivers (tape_report f symbols.now) (S.told out.old) (S.told out.new)
-        (record { folder = F.faults folder.old; sink = S.faults out.old })
-        (record { folder = F.faults folder.new; sink = S.faults out.new }) result }
-    ensures cause { HasStatusCause
-        (record { folder = F.faults folder.old; sink = S.faults out.old })
-        (record { folder = F.faults folder.new; sink = S.faults out.new }) result }
-    ensures quiet { result ≡ Status.ReadFault → S.told out.new ≡ S.told out.old }
+    ensures taped { (f : Files) → F.files folder.old ≡ Some f
+        → HasTaped (securities f symbols.now) (S.told out.old) (S.told out.new) result }
     ensures taken { NamesNoUsage result }
+    ensures cause { HasStatusCause (F.faults folder.old) (F.faults folder.new)
+        (S.faults out.old) (S.faults out.new) result }
     ensures kept { F.files folder.new ≡ F.files folder.old }
     ensures folder_grows { F.faults folder.old ≤ F.faults folder.new }
     ensures sink_grows { S.faults out.old ≤ S.faults out.new }
 {
-    match read_sources(alloc, symbols, folder) {
-        Ok(sources) => print_answer(alloc, sources, out),
+    match Vec::with_capacity(alloc, symbols.len()) {
+        Ok(mut sources) => {
+            let status = match open_sources(alloc, symbols, folder, &mut sources) {
+                Ok(()) => tape_of(alloc, &mut sources, out),
+                Err(NoMemory) => Status::NoMemory,
+            };
+            give_back(sources, folder);
+            status
+        }
+        Err(_) => Status::NoMemory,
+    }
+}
+
+// Prints the tape of the securities that were opened.
+fn tape_of<H: Hand, S: Sink>(alloc: Global, sources: &mut Vec<Source<H>>, out: &mut S) -> Status
+    requires sound { AllByRecursion (IsSound H.is_open H.faults) sources.old.items }
+    requires past { AllPast 0 sources.old.items }
+    requires few { length sources.old.items ≤ 64 }
+    ensures taped { (f : Files) (all : List Security)
+        → AllZip (Follows H.files H.rest f 0) all sources.old.items
+        → HasTaped all (S.told out.old) (S.told out.new) result }
+    ensures taken { NamesNoUsage result }
+    ensures cause { HasTapeCause (HasFaulted H.faults sources.new.items) (S.faults out.old) (S.faults out.new) result }
+    ensures grows { S.faults out.old ≤ S.faults out.new }
+{
+    match print_tape(alloc, sources, out) {
+        Ok(status) => status,
         Err(stop) => status_of(stop),
     }
 }
 
-/// Prints what the daily files say.
-fn print_answer<S: Sink>(alloc: Global, sources: Sources, out: &mut S) -> Status
-    requires { IsSmall sources }
-    ensures printed { Prints (answer_to sources) (S.told out.old) (S.told out.new) (S.faults out.old) (S.faults out.new) result }
+fn print_usage<S: Sink>(out: &mut S) -> Status
+    ensures printed { HasUsage (S.told out.old) (S.told out.new) result }
+    ensures cause { result ≡ Status.WriteFault → Rose (S.faults out.old) (S.faults out.new) }
     ensures grows { S.faults out.old ≤ S.faults out.new }
 {
-    match sources {
-        Sources::All(sources) => print_sources(alloc, sources, out),
-        Sources::Refused(symbol) => print_refusal(alloc, &symbol, out),
-    }
-}
-
-/// Prints the tape of the securities.
-fn print_sources<S: Sink>(alloc: Global, sources: Vec<Source>, out: &mut S) -> Status
-    requires few { length sources.items ≤ 64 }
-    requires rise { AllRise day_of 0 sources.items }
-    ensures printed { Prints (tape_text (day_by_day day_of (last_day + 1) sources.items), Status.Done)
-        (S.told out.old) (S.told out.new) (S.faults out.old) (S.faults out.new) result }
-    ensures grows { S.faults out.old ≤ S.faults out.new }
-{
-    match Tape::new(alloc, sources) {
-        Ok(tape) => print_whole(alloc, tape, out),
-        Err(NoMemory) => Status::NoMemory,
-    }
-}
-
-/// Prints the line that names the file of a security as refused.
-fn print_refusal<S: Sink>(alloc: Global, symbol: &Symbol, out: &mut S) -> Status
-    ensures printed { Prints (unbuilt_line symbol.now, Status.BadRow)
-        (S.told out.old) (S.told out.new) (S.faults out.old) (S.faults out.new) result }
-    ensures grows { S.faults out.old ≤ S.faults out.new }
-{
-    match refusal_line(alloc, symbol) {
-        Ok(line) => print_line(line.as_bytes(), Status::BadRow, out),
-        Err(NoMemory) => Status::NoMemory,
-    }
-}
-
-fn print_whole<S: Sink>(alloc: Global, tape: Tape, out: &mut S) -> Status
-    requires ready { IsReady tape }
-    requires few { length (left tape) < 2 ^ 64 }
-    ensures printed { Prints (tape_text (left tape), Status.Done)
-        (S.told out.old) (S.told out.new) (S.faults out.old) (S.faults out.new) result }
-    ensures grows { S.faults out.old ≤ S.faults out.new }
-{
-    let mut tape = tape;
-    match print_tape(alloc, &mut tape, out) {
-        Ok(()) => Status::Done,
-        Err(stop) => status_of(stop),
-    }
-}
-
-fn refusal_line(alloc: Global, symbol: &Symbol) -> Result<String, NoMemory>
-    ensures { IfOk result (λ line. string_bytes line ≡ unbuilt_line symbol.now) }
-{
-    let mut line = String::from_str(alloc, "unbuilt ")?;
-    line.push_str(daily_path(alloc, symbol)?.as_str())?;
-    line.push_str("\n")?;
-    Ok(line)
-}
-
-/// Prints a line that ends a report.
-fn print_line<S: Sink>(line: &[u8], status: Status, out: &mut S) -> Status
-    ensures printed { Prints (line.now, status) (S.told out.old) (S.told out.new) (S.faults out.old) (S.faults out.new) result }
-    ensures grows { S.faults out.old ≤ S.faults out.new }
-{
-    match write_whole(out, line) {
-        Ok(()) => status,
+    match write_whole(out, b"usage\n") {
+        Ok(()) => Status::Usage,
         Err(WriteFault) => Status::WriteFault,
     }
 }
@@ -155,7 +110,6 @@ fn status_of(stop: Stop) -> Status
 {
     match stop {
         Stop::NoMemory => Status::NoMemory,
-        Stop::ReadFault => Status::ReadFault,
         Stop::WriteFault => Status::WriteFault,
     }
 }

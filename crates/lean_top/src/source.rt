@@ -1,74 +1,81 @@
-//! The rows of one security, with their facts.
-ghost use Rattle.std.specs.Prelude.{◌≡◌, ◌<◌, ◌∷◌, true, length, map};
-ghost use Rattle.lean_top.specs.Entry.{IsDaily};
+//! A security of the daily tape, read row by row.
+ghost use Rattle.std.specs.Prelude.{◌≡◌, ◌≤◌, Some, option_map};
+ghost use Rattle.lean_io.specs.Told.{Files};
+ghost use Rattle.line_source.specs.Lines.{lines as file_lines};
+ghost use Rattle.line_source.specs.Reader.{hand_of, number_of, lines_left};
+ghost use Rattle.lean_top.specs.DailyFile.{file_sheet, with_row};
+ghost use Rattle.lean_top.specs.DailyTape.{step_of};
+ghost use Rattle.lean_top.specs.Head.{still_to_come, IfKnown, MayGoOn, HasCause, StandsPast};
+ghost use Rattle.lean_top.specs.Source.{to_come, IsSound};
 
-use equity_csv::Row;
+use crate::daily_row::DailyRow;
+use crate::head::{Head, read_head};
 use lean_fixed::Symbol;
-use std::marker::Model;
+use lean_io::{Failed, Hand};
+use line_source::Lines;
 
-/// A row of a daily file: it starts at 00:00 of a day from 1970-01-01 to 2199-12-31.
-#[derive(Clone, Copy, Debug)]
-pub struct DailyRow {
-    pub row: Row,
-    ghost daily: { IsDaily row },
-}
-
-/// What is left of the rows of a security, from the first day on.
+/// A security, the reader of its daily file, and what the file says next.
 #[derive(Drop)]
-pub struct Source {
-    symbol: Symbol,
-    rows: Vec<DailyRow>,
-    next: usize,
+pub struct Source<H> {
+    pub symbol: Symbol,
+    pub head: Head,
+    pub lines: Lines<H>,
 }
 
-impl Model for Source {
-    ghost use Rattle.std.specs.Prelude.{ℕ, List, ◌≤◌, vec_len};
-    ghost use Rattle.equity_csv.specs.declared.row.Row.{Row};
-
-    ghost Value = { List (List ℕ × Row) };
-
-    ghost use Rattle.lean_top.specs.Source.{entries};
-
-    ghost view = { entries };
-
-    ghost invariant = { λ s. s.next ≤ vec_len s.rows };
-}
-
-impl Source {
-    ghost use Rattle.lean_top.specs.ByDay.{Rises};
-    ghost use Rattle.lean_top.specs.DailyFile.{rising};
-    ghost use Rattle.lean_top.specs.Entry.{day_of, first_day};
-    ghost use Rattle.lean_top.specs.FileRows.{plain_rows};
-
-    /// The rows of a security, all of them left.
-    pub fn new(symbol: Symbol, rows: Vec<DailyRow>) -> Source
-        requires { rising (plain_rows rows.items) ≡ true }
-        ensures value { result ≡ map (λ daily. (symbol, daily.row)) rows.items }
-        ensures rises { Rises day_of 0 result }
+impl<H: Hand> Source<H> {
+    /// The security whose daily file lies at a path, read by a hand that has met no fault.
+    pub fn open(symbol: Symbol, hand: H, path: &str) -> Source<H>
+        requires fresh { H.faults hand ≡ 0 }
+        ensures told { (f : Files) → H.files hand ≡ Some f
+            → IfKnown result.head (file_sheet (option_map file_lines (f path.now)) ≡ to_come H.rest result) }
+        ensures sound { IsSound H.is_open H.faults result }
+        ensures past { StandsPast 0 result.head }
+        ensures symbol { result.symbol ≡ symbol }
+        ensures kept { H.files (hand_of result.lines) ≡ H.files hand }
     {
+        let mut lines = Lines::new(hand);
+        let head = first_head(&mut lines, path);
         Source {
             symbol,
-            rows,
-            next: 0,
+            head,
+            lines,
         }
     }
 
-    /// The first row that is left, and its symbol.
-    pub fn take(&mut self) -> (Symbol, Row)
-        requires { 0 < length self.old }
-        ensures entry { self.old ≡ result ∷ self.new }
-        ensures daily { IsDaily result.1 }
+    /// Goes on behind the row that is the head.
+    pub fn advance(&mut self, row: DailyRow)
+        requires head { self.old.head ≡ Head.Row row }
+        requires sound { IsSound H.is_open H.faults self.old }
+        ensures told { (f : Files) → H.files (hand_of self.old.lines) ≡ Some f
+            → IfKnown self.new.head (to_come H.rest self.old ≡ with_row row.row (to_come H.rest self.new)) }
+        ensures sound { IsSound H.is_open H.faults self.new }
+        ensures past { StandsPast (step_of row.row) self.new.head }
+        ensures symbol { self.new.symbol ≡ self.old.symbol }
+        ensures kept { H.files (hand_of self.new.lines) ≡ H.files (hand_of self.old.lines) }
     {
-        let row = self.rows[self.next].row;
-        self.next += 1;
-        (self.symbol, row)
+        self.head = read_head(&mut self.lines, Some(row));
     }
 
-    /// The day of the first row that is left.
-    pub fn day(&self) -> Option<u32>
-        ensures { result ≡ first_day self.now }
+    /// The hand that read the file.
+    pub fn into_hand(self) -> H
+        ensures { result ≡ hand_of self.lines }
     {
-        let first = self.rows.get(self.next)?;
-        Some((first.row.start.0 / 1440) as u32)
+        self.lines.into_hand()
+    }
+}
+
+// What the file at a path says first.
+fn first_head<H: Hand>(lines: &mut Lines<H>, path: &str) -> Head
+    ensures told { (f : Files) → H.files (hand_of lines.old) ≡ Some f
+        → IfKnown result (file_sheet (option_map file_lines (f path.now)) ≡ still_to_come result (lines_left H.rest lines.new)) }
+    ensures past { StandsPast 0 result }
+    ensures open { MayGoOn (H.is_open (hand_of lines.new)) (number_of lines.new) result }
+    ensures cause { HasCause (H.faults (hand_of lines.old)) (H.faults (hand_of lines.new)) result }
+    ensures kept { H.files (hand_of lines.new) ≡ H.files (hand_of lines.old) }
+{
+    match lines.open_file(path) {
+        Ok(true) => read_head(lines, None),
+        Ok(false) => Head::End,
+        Err(Failed) => Head::Faulted,
     }
 }

@@ -1,72 +1,94 @@
-//! The merge of the rows of several securities.
-ghost use Rattle.std.specs.Prelude.{◌≡◌, ℕ, ◌+◌, ◌<◌, ◌≤◌, ◌∷◌, [], List, length, IfOk, OnOk};
-ghost use Rattle.lean_top.specs.HeapOf.{HasHeads};
+//! The daily tape from its rows to its last line.
+ghost use Rattle.std.specs.Prelude.{◌≡◌, ◌≤◌, ◌++◌, List, ℕ, length, IfOk, OnOk, OnErr, IfErr};
+ghost use Rattle.std.specs.List.{AllByRecursion, AllZip};
+ghost use Rattle.lean_io.specs.Told.{Files, Rose};
+ghost use Rattle.lean_top.specs.DailyTape.{Security};
+ghost use Rattle.lean_top.specs.Endings.{HasStopped, IsLast, IsLastAt, HasFaulted, IsTapeReport, IsTapeFront, IsTapeStatus};
+ghost use Rattle.lean_top.specs.Printed.{HasCause};
+ghost use Rattle.lean_top.specs.Source.{IsSound, Follows};
+ghost use Rattle.lean_top.specs.Steps.{AllPast, Stops};
 
-use crate::heads::Head;
+use crate::daily_tape::{Ending, print_rows};
+use crate::head::Head;
+use crate::line::{append_end, append_refusal};
+use crate::print::{PAGE, Stop, flush};
 use crate::source::Source;
-use equity_csv::Row;
-use lean_fixed::{NoMemory, Symbol};
+use crate::status::Status;
+use lean_fixed::NoMemory;
+use lean_io::{Hand, Sink};
 use std::alloc::Global;
-use std::cmp::Reverse;
-use std::collections::BinaryHeap;
 
-/// The rows of several securities, by date and then in the order of the securities.
-#[derive(Drop)]
-pub struct Tape {
-    sources: Vec<Source>,
-    heads: BinaryHeap<Reverse<Head>>,
-}
-
-impl Tape {
-    ghost use Rattle.lean_top.specs.Tape.{left, IsReady, NextOf};
-    ghost use Rattle.lean_top.specs.Entry.{day_of, IsDaily};
-    ghost use Rattle.lean_fixed.specs.Calendar.{last_day};
-    ghost use Rattle.lean_top.specs.ByDay.{day_by_day, AllRise};
-
-    /// The tape of these securities. `NoMemory`: there is no memory for their heads.
-    pub fn new(alloc: Global, sources: Vec<Source>) -> Result<Tape, NoMemory>
-        requires { AllRise day_of 0 sources.items }
-        ensures ready { IfOk result IsReady }
-        ensures left { IfOk result (λ tape. left tape ≡ day_by_day day_of (last_day + 1) sources.items) }
-        ensures same { IfOk result (λ tape. tape.sources.items ≡ sources.items) }
-    {
-        let heads = heads_of(alloc, &sources)?;
-        Ok(Tape { sources, heads })
-    }
-
-    /// The next row and its symbol.
-    pub fn next(&mut self) -> Result<Option<(Symbol, Row)>, NoMemory>
-        requires ready { IsReady self.old }
-        ensures ready { OnOk result (IsReady self.new) }
-        ensures next { IfOk result (NextOf (left self.old) (left self.new)) }
-    {
-        let Some(Reverse(head)) = self.heads.pop() else {
-            return Ok(None);
-        };
-        let source = &mut self.sources[head.source];
-        let entry = source.take();
-        match source.day() {
-            Some(day) => {
-                self.heads.push(Reverse(Head {
-                    day,
-                    source: head.source,
-                }))?;
-                Ok(Some(entry))
-            }
-            None => Ok(Some(entry)),
-        }
-    }
-}
-
-/// The heads of the sources that have a row.
-fn heads_of(alloc: Global, sources: &[Source]) -> Result<BinaryHeap<Reverse<Head>>, NoMemory>
-    ensures { IfOk result (HasHeads sources.now) }
+/// Prints the tape of some securities.
+pub fn print_tape<H: Hand, S: Sink>(
+    alloc: Global,
+    sources: &mut Vec<Source<H>>,
+    out: &mut S,
+) -> Result<Status, Stop>
+    requires sound { AllByRecursion (IsSound H.is_open H.faults) sources.old.items }
+    requires past { AllPast 0 sources.old.items }
+    requires few { length sources.old.items ≤ 64 }
+    ensures told { IfOk result (λ status. (f : Files) (all : List Security)
+        → AllZip (Follows H.files H.rest f 0) all sources.old.items
+        → IsTapeReport all (S.told out.old) (S.told out.new) status) }
+    ensures front { OnErr result ((f : Files) (all : List Security)
+        → AllZip (Follows H.files H.rest f 0) all sources.old.items
+        → IsTapeFront all (S.told out.old) (S.told out.new)) }
+    ensures fault { IfOk result (λ status. status ≡ Status.ReadFault
+        → HasFaulted H.faults sources.new.items) }
+    ensures ends { IfOk result IsTapeStatus }
+    ensures cause { IfErr result (HasCause (S.faults out.old) (S.faults out.new)) }
+    ensures grows { S.faults out.old ≤ S.faults out.new }
 {
-    let mut heads = BinaryHeap::with_capacity(alloc, sources.len())?;
-    for (place, source) in sources.iter().enumerate() {
-        if let Some(day) = source.day() {
-            heads.push(Reverse(Head { day, source: place }))?;
+    let mut page = Vec::with_capacity(alloc, PAGE)?;
+    let ending = print_rows(sources, &mut page, out)?;
+    let status = append_last(alloc, sources, ending, &mut page)?;
+    flush(&mut page, out)?;
+    Ok(status)
+}
+
+// Appends what is printed behind the last row, and gives the status.
+fn append_last<H: Hand>(
+    alloc: Global,
+    sources: &[Source<H>],
+    ending: Ending,
+    page: &mut Vec<u8>,
+) -> Result<Status, NoMemory>
+    requires stopped { HasStopped sources.now ending }
+    requires sound { AllByRecursion (IsSound H.is_open H.faults) sources.now }
+    ensures last { IfOk result (λ status. (last : List ℕ)
+        × (page.new.items ≡ page.old.items ++ last) × IsLast sources.now ending status last) }
+    ensures fault { IfOk result (λ status. status ≡ Status.ReadFault
+        → HasFaulted H.faults sources.now) }
+    ensures ends { IfOk result IsTapeStatus }
+{
+    match ending {
+        Ending::Whole(rows) => {
+            append_end(rows, page)?;
+            Ok(Status::Done)
         }
+        Ending::Stopped(place) => append_stop(alloc, &sources[place], page),
     }
-    Ok(heads)
+}
+
+// Names the malformed line that is the head of a security; of a failed read there is nothing to print.
+fn append_stop<H: Hand>(
+    alloc: Global,
+    source: &Source<H>,
+    page: &mut Vec<u8>,
+) -> Result<Status, NoMemory>
+    requires { Stops source.now.head }
+    ensures last { IfOk result (λ status. (last : List ℕ)
+        × (page.new.items ≡ page.old.items ++ last) × IsLastAt source.now.symbol source.now.head status last) }
+    ensures fault { IfOk result (λ status. status ≡ Status.ReadFault → source.now.head ≡ Head.Faulted) }
+    ensures ends { IfOk result IsTapeStatus }
+{
+    match source.head {
+        Head::Bad(bad) => {
+            append_refusal(alloc, &source.symbol, &bad, page)?;
+            Ok(Status::BadRow)
+        }
+        Head::Faulted => Ok(Status::ReadFault),
+        Head::Row(_) => unreachable!(),
+        Head::End => unreachable!(),
+    }
 }

@@ -1,0 +1,155 @@
+-- What was printed of a tape is its report, or a front of it.
+use Rattle.std.proofs.Common.{◌≡◌, ℕ, ◌+◌, ◌-◌, ◌≤◌, List, [], ◌∷◌, ◌++◌, refl, sym, ap, ◌∙◌, subst, arith, length, append_assoc, append-nil, get_or, inl, inr}
+use Rattle.std.specs.Prelude.{Bool, Option, Some, None, flat_map, Result, Ok, Err, IfOk}
+use Rattle.std.specs.List.{AllByRecursion}
+use Rattle.std.proofs.Math.Seq.{get_or-append_seam}
+use Rattle.std.proofs.lemmas.Grind.{flat_map-append}
+use Rattle.lean_fixed.specs.Calendar.{last_day}
+use Rattle.clock_steps.specs.Runs.{run, IsFrontOf}
+use Rattle.clock_steps.proofs.RunLemmas.{run-front}
+use Rattle.lean_fixed.specs.declared.memory.NoMemory.{NoMemory}
+use Rattle.lean_io.specs.Told.{Rose}
+use Rattle.line_source.specs.Reader.{hand_of}
+use Rattle.lean_top.specs.declared.daily_tape.Ending.{Ending}
+use Rattle.lean_top.specs.declared.daily_tape.Ending.TheVariants.{Whole, Stopped}
+use Rattle.lean_top.specs.declared.head.Head.{Head}
+use Rattle.lean_top.specs.declared.head.Head.TheVariants.{Row, Bad, Faulted, End}
+use Rattle.lean_top.specs.declared.source.Source.{Source}
+use Rattle.lean_top.specs.declared.status.Status.{Status}
+use Rattle.lean_top.specs.declared.status.Status.TheVariants.{Done, BadRow, ReadFault}
+use Rattle.lean_top.specs.DailyTape.{Security, TapeRow, Refusal, refusal, tape, tape_step, tape_line, tape_text, end_line, data_line, last_line, tape_report_of}
+use Rattle.lean_top.specs.Endings.{IsWhole, EndsAt, HasStopped, EndsSo, IsTape, IsLastAt, IsLast, HasFaulted, IsTapeReport, IsTapeFront}
+use Rattle.lean_top.specs.Printed.{IsPrinted, IsTaken, IsFront}
+use Rattle.lean_top.specs.Head.{HasCause}
+use Rattle.lean_top.specs.Source.{IsSound}
+use Rattle.lean_top.specs.Steps.{IsFirstStop}
+use Rattle.lean_top.proofs.NextLemmas.{all-back}
+use Rattle.lean_top.proofs.PrintedLemmas.{IsFront-behind, IsFront-more, IsFront-printed, IsTaken-append}
+
+-- an empty page and all that was printed behind it went into the sink
+pub taken_whole : (before after last : Option (List ℕ)) (new bytes more : List ℕ) → IsPrinted before after [] new bytes → IsPrinted after last (new ++ more) [] [] → IsTaken before last (bytes ++ more)
+taken_whole before after last new bytes more first flushed =
+    let all : bytes ≡ first.written ++ new = first.rest in
+    let rest : new ++ more ≡ flushed.written = sym (append-nil (new ++ more)) ∙ flushed.rest ∙ append-nil flushed.written in
+    let text : bytes ++ more ≡ first.written ++ flushed.written = ap (λ b. b ++ more) all ∙ append_assoc first.written new more ∙ ap (λ b. first.written ++ b) rest in
+    subst (IsTaken before last) (sym text) (IsTaken-append before after last first.written flushed.written first.taken flushed.taken)
+
+module _ {H : Type 0} (all : List Security) (sources : List (Source H)) where
+  report_at : (rows : List TapeRow) (symbol : List ℕ) (head : Head) (status : Status) (last : List ℕ) (before after : Option (List ℕ))
+      → EndsAt all rows symbol head → IsLastAt symbol head status last → IsTaken before after (tape_text rows ++ last) → IsTapeReport all before after status
+  report_at rows symbol (Bad bad) status last before after ends (is, line) taken =
+      rw (is, ends) (refl, (let t : IsTaken before after (tape_text rows ++ data_line (refusal symbol bad)) = rw line at taken in t))
+  report_at rows symbol Faulted status last before after ends (is, none) taken =
+      rw is (rows, ends, (let t : IsTaken before after (tape_text rows) = subst (IsTaken before after) (ap (λ l. tape_text rows ++ l) none ∙ append-nil (tape_text rows)) taken in t))
+  report_at rows symbol (Row daily) status last before after ends is taken = absurd ends
+  report_at rows symbol End status last before after ends is taken = absurd ends
+
+  -- a tape that ended by itself, with its last line
+  pub report_of : (rows : List TapeRow) (ending : Ending) (status : Status) (last : List ℕ) (before after : Option (List ℕ))
+      → EndsSo all sources rows ending → IsLast sources ending status last → IsTaken before after (tape_text rows ++ last) → IsTapeReport all before after status
+  report_of rows (Whole count) status last before after (ends, counted) (is, line) taken =
+      rw (is, ends) (refl, (let t : IsTaken before after (tape_text rows ++ end_line (length rows)) = rw (line, counted) at taken in t))
+  report_of rows (Stopped place) status last before after ends (stop, is) taken =
+      report_at rows stop.source.symbol stop.source.head status last before after (ends stop) is taken
+
+  -- the rows that were printed are the first of the tape's
+  pub rows_at_stop : (rows : List TapeRow) (symbol : List ℕ) (head : Head) → EndsAt all rows symbol head → IsFrontOf rows (tape all).lines
+  rows_at_stop rows symbol (Bad bad) ends = record { rest = []; is = ap (λ r. r.lines) ends ∙ sym (append-nil rows) }
+  rows_at_stop rows symbol Faulted whole =
+      let front = run-front (tape_step all) whole.count (last_day + 2 - whole.count) 0 tt in
+      let count : whole.count + (last_day + 2 - whole.count) ≡ last_day + 1 + 1 - 0 = omega (arith, whole.small) in
+      record { rest = front.rest; is = sym (ap (λ n. (run (tape_step all) n 0 tt).lines) count) ∙ front.is ∙ ap (λ r. r ++ front.rest) (sym whole.is) }
+  rows_at_stop rows symbol (Row daily) ends = absurd ends
+  rows_at_stop rows symbol End ends = absurd ends
+
+  -- what goes behind them in the report
+  pub text_behind : (rows : List TapeRow) → IsFrontOf rows (tape all).lines → (more : List ℕ) × ((tape_report_of (tape all)).0 ≡ tape_text rows ++ more)
+  text_behind rows front =
+      let last = (last_line (length (tape all).lines) (tape all).stop).0 in (
+        tape_text front.rest ++ last,
+        ap (λ ls. tape_text ls ++ last) front.is ∙ ap (λ t. t ++ last) (flat_map-append tape_line rows front.rest) ∙ append_assoc (tape_text rows) (tape_text front.rest) last,
+      )
+
+  -- the rows went no further than the page
+  front_of_page : (rows : List TapeRow) (before after : Option (List ℕ)) (page new : List ℕ) → page ≡ [] → IsPrinted before after page new (tape_text rows)
+      → IsFrontOf rows (tape all).lines → IsTapeFront all before after
+  front_of_page rows before after page new empty printed front =
+      let behind = text_behind rows front in
+      let whole : IsFront before after (page ++ (tape_text rows ++ behind.0)) = IsFront-printed before after page new (tape_text rows) behind.0 printed in
+      subst (IsFront before after) (ap (λ p. p ++ (tape_text rows ++ behind.0)) empty ∙ sym behind.1) whole
+
+  rows_so_far : (rows : List TapeRow) (ending : Ending) → EndsSo all sources rows ending → HasStopped sources ending → IsFrontOf rows (tape all).lines
+  rows_so_far rows (Whole count) ends stopped = record { rest = []; is = ap (λ r. r.lines) ends.0 ∙ sym (append-nil rows) }
+  rows_so_far rows (Stopped place) ends stopped = rows_at_stop rows stopped.source.symbol stopped.source.head (ends stopped)
+
+  pub front_of_rows : (before after : Option (List ℕ)) (page new : List ℕ) (ending : Ending) → page ≡ [] → HasStopped sources ending
+      → IsTape all sources before after page new ending → IsTapeFront all before after
+  front_of_rows before after page new ending empty stopped t =
+      front_of_page t.rows before after page new empty t.printed (rows_so_far t.rows ending t.ends stopped)
+
+  -- the last flush took a front
+  front_at : (rows : List TapeRow) (symbol : List ℕ) (head : Head) (status : Status) (last : List ℕ) → EndsAt all rows symbol head → IsLastAt symbol head status last
+      → (more : List ℕ) × ((tape_report_of (tape all)).0 ≡ tape_text rows ++ last ++ more)
+  front_at rows symbol (Bad bad) status last ends (is, line) =
+      ([], rw (ends, line) (sym (append-nil (tape_text rows ++ data_line (refusal symbol bad)))))
+  front_at rows symbol Faulted status last ends (is, none) =
+      let behind = text_behind rows (rows_at_stop rows symbol Faulted ends) in
+      (behind.0, behind.1 ∙ ap (λ l. l ++ behind.0) (sym (ap (λ l. tape_text rows ++ l) none ∙ append-nil (tape_text rows))))
+  front_at rows symbol (Row daily) status last ends is = absurd ends
+  front_at rows symbol End status last ends is = absurd ends
+
+  front_so : (rows : List TapeRow) (ending : Ending) (status : Status) (last : List ℕ) → EndsSo all sources rows ending → IsLast sources ending status last
+      → (more : List ℕ) × ((tape_report_of (tape all)).0 ≡ tape_text rows ++ last ++ more)
+  front_so rows (Whole count) status last (ends, counted) (is, line) =
+      ([], rw (ends, line, counted) (sym (append-nil (tape_text rows ++ end_line (length rows)))))
+  front_so rows (Stopped place) status last ends (stop, is) = front_at rows stop.source.symbol stop.source.head status last (ends stop) is
+
+  pub front_of_last : (before after later : Option (List ℕ)) (page new ended last : List ℕ) (ending : Ending) (status : Status) → page ≡ []
+      → IsTape all sources before after page new ending → ended ≡ new ++ last → IsLast sources ending status last → IsFront after later ended → IsTapeFront all before later
+  front_of_last before after later page new ended last ending status empty t is_ended is front =
+      let so = front_so t.rows ending status last t.ends is in
+      let more : IsFront after later (new ++ (last ++ so.0))
+      = subst (IsFront after later) (append_assoc new last so.0) (IsFront-more after later (new ++ last) so.0 (subst (IsFront after later) is_ended front)) in
+      let whole : IsFront before later (page ++ (tape_text t.rows ++ (last ++ so.0))) = IsFront-behind before after later page new (tape_text t.rows) (last ++ so.0) t.printed more in
+      subst (IsFront before later) (ap (λ p. p ++ (tape_text t.rows ++ (last ++ so.0))) empty ∙ sym (append_assoc (tape_text t.rows) last so.0) ∙ sym so.1) whole
+
+if_ok : {A E : Type 0} (r : Result A E) (P Q : A → Type 0) → ((x : A) → P x → Q x) → IfOk r P → IfOk r Q
+if_ok (Ok x) P Q f h = f x h
+if_ok (Err e) P Q f h = tt
+
+faulted_at : {H : Type 0} (faults : H → ℕ) (before : List (Source H)) (source : Source H) (after : List (Source H))
+    → Rose 0 (faults (hand_of source.lines)) → HasFaulted faults (before ++ source ∷ after)
+faulted_at faults [] source after rose = inl rose
+faulted_at faults (b ∷ before) source after rose = inr (faulted_at faults before source after rose)
+
+module _ {H : Type 0} (sources : List (Source H)) (ending : Ending) (place : ℕ) (is : ending ≡ Stopped place) (stopped : HasStopped sources ending)
+    (source : Source H) (found : source ≡ get_or sources place source) where
+  the_stop : IsFirstStop sources place
+  the_stop = subst (HasStopped sources) is stopped
+
+  -- the source at the place is the one that stopped the tape
+  stop_source : the_stop.source ≡ source
+  stop_source =
+      sym (get_or-append_seam the_stop.before the_stop.source the_stop.after source)
+      ∙ ap (λ n. get_or (the_stop.before ++ the_stop.source ∷ the_stop.after) n source) the_stop.counted
+      ∙ ap (λ all. get_or all place source) (sym the_stop.is) ∙ sym found
+
+  pub last_of_stop : (old new : List ℕ) (r : Result Status NoMemory)
+      → IfOk r (λ status. (last : List ℕ) × (new ≡ old ++ last) × IsLastAt source.symbol source.head status last)
+      → IfOk r (λ status. (last : List ℕ) × (new ≡ old ++ last) × IsLast sources ending status last)
+  last_of_stop old new r h =
+      if_ok r _ _ (λ status l. (
+        l.0,
+        l.1,
+        subst (λ e. IsLast sources e status l.0) (sym is)
+            (the_stop, subst (λ (s : Source H). IsLastAt s.symbol s.head status l.0) (sym stop_source) l.2),
+      )) h
+
+  pub fault_of_stop : (is_open : H → Bool) (faults : H → ℕ) (r : Result Status NoMemory) → AllByRecursion (IsSound is_open faults) sources
+      → IfOk r (λ status. status ≡ ReadFault → source.head ≡ Faulted) → IfOk r (λ status. status ≡ ReadFault → HasFaulted faults sources)
+  fault_of_stop is_open faults r sound h =
+      let here = (all-back (IsSound is_open faults) the_stop.before (the_stop.source ∷ the_stop.after) (subst (AllByRecursion (IsSound is_open faults)) the_stop.is sound)).0 in
+      if_ok r _ _ (λ status faulted fault.
+      (let head : the_stop.source.head ≡ Faulted = ap (λ (s : Source H). s.head) stop_source ∙ faulted fault in
+      let rose : Rose 0 (faults (hand_of the_stop.source.lines)) = subst (HasCause 0 (faults (hand_of the_stop.source.lines))) head here.cause in
+      subst (HasFaulted faults) (sym the_stop.is) (faulted_at faults the_stop.before the_stop.source the_stop.after rose))) h

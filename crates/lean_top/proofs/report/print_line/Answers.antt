@@ -1,7 +1,0 @@
--- A write that fails took a front of the line.
-use Rattle.std.proofs.Common.{inr}
-use Rattle.lean_top.proofs.PrintedLemmas.{IsFront-take}
-use Rattle.lean_top.proofs.report.print_line.Goals as goal
-
-pub returns-in-Err-clause-printed : goal.returns-in-Err-clause-printed
-returns-in-Err-clause-printed g c = inr (c.in-Err.ensures.rose, IsFront-take _ _ _ c.in-Err.ensures.err)

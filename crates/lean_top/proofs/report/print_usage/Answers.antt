@@ -1,0 +1,6 @@
+-- A write that fails took a front of the line.
+use Rattle.lean_top.proofs.PrintedLemmas.{IsFront-take}
+use Rattle.lean_top.proofs.report.print_usage.Goals as goal
+
+pub returns-in-Err-clause-printed : goal.returns-in-Err-clause-printed
+returns-in-Err-clause-printed g c = IsFront-take _ _ _ c.in-Err.ensures.err
