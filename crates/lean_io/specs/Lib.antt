@@ -1,6 +1,5 @@
 pub mod Told
 pub mod Whole
-pub mod Lines
 pub mod Counts
 pub mod MemSink
 pub mod MemFolder
