@@ -2,7 +2,7 @@
 """Compares `lean tape` with a plain Rust program on a folder made for it: the same bytes, and the ratio of the times.
 
 It needs rustc, and the program that `rt ci` or `./run` built. The made folder has SYMBOLS daily files of just under a
-mebibyte, the most that the daily tape reads. Each program runs RUNS times, in turn, and its least time counts.
+mebibyte. Each program runs RUNS times, in turn, and its least time counts.
 """
 import datetime
 import pathlib
