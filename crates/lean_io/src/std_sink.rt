@@ -1,5 +1,6 @@
-ghost use Rattle.std.specs.Prelude.{◌≡◌, ◌<◌, ◌≤◌, ◌↔◌, Ok, length, take, IfOk, IsErr};
-ghost use Rattle.std.specs.Io.KnownBytes.{Appends};
+ghost use Rattle.std.specs.Prelude.{◌≡◌, ◌<◌, ◌≤◌, ◌↔◌, Ok, length, take, IfOk, OnOk, OnErr, IsErr};
+ghost use Rattle.std.specs.Io.KnownBytes.{Keeps, Appends};
+ghost use Rattle.lean_io.specs.Counts.{raised};
 ghost use Rattle.lean_io.specs.StdSink.{IsFault};
 
 use crate::counts::Count;
@@ -59,24 +60,38 @@ impl<R: Print + Copy + Send + Drop + 'static> Sink for StdSink<R> {
         ensures failed { OnErr result (self.new.faults ≡ raised self.old.faults 1) }
         ensures grows { self.old.faults ≤ self.new.faults }
     {
-        self.writes.rise();
-        let answer = write_once(&mut io::writer(&self.rt), bytes);
-        if answer.is_err() {
-            self.faults.rise();
-        }
-        answer
+        let mut out = io::writer(&self.rt);
+        write_once(&mut out, bytes, &mut self.writes, &mut self.faults)
     }
 }
 
-// Gives a piece to a writer in one write. What the writer took of it is told as it is.
-fn write_once<W: Write>(out: &mut W, piece: &[u8]) -> Result<usize, Failed>
+// Gives a piece to a writer in one write, which is counted, as is its fault. What the writer took of
+// the piece is told as it is.
+fn write_once<W: Write>(
+    out: &mut W,
+    piece: &[u8],
+    writes: &mut Count,
+    faults: &mut Count,
+) -> Result<usize, Failed>
     ensures within { IfOk result (λ n. n ≤ length piece.now) }
     ensures some { IfOk result (λ n. 0 < length piece.now → 0 < n) }
     ensures took { IfOk result (λ n. Appends (W.contents out.old) (W.contents out.new)
         (take n piece.now)) }
+    ensures kept { OnErr result (Keeps (W.contents out.old) (W.contents out.new)) }
+    ensures counted { writes.new ≡ raised writes.old 1 }
+    ensures same { OnOk result (faults.new ≡ faults.old) }
+    ensures failed { OnErr result (faults.new ≡ raised faults.old 1) }
+    ensures grows { faults.old ≤ faults.new }
 {
+    writes.rise();
     let answer = out.write(piece);
-    taken(piece.len(), answer)
+    match taken(piece.len(), answer) {
+        Ok(n) => Ok(n),
+        Err(Failed) => {
+            faults.rise();
+            Err(Failed)
+        }
+    }
 }
 
 // How much of a piece of this length was taken, by the system's answer to its write. Where the
