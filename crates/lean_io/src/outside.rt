@@ -12,7 +12,7 @@ pub struct Failed;
 
 /// Not all bytes could be written. It is answered only where the sink's count of faults rose, or
 /// stands at its last value.
-#[derive(Clone, Copy, Debug, PartialEq, Eq)]
+#[derive(Clone, Copy, Debug)]
 pub struct WriteFault;
 
 /// Reads the files of a folder, one at a time.

@@ -8,7 +8,7 @@ use lean_fixed::NoMemory;
 use std::alloc::Global;
 
 /// What the reading of a whole file gave.
-#[derive(Debug, Drop)]
+#[derive(Drop)]
 pub enum Whole {
     /// The file's bytes.
     Text(Vec<u8>),
