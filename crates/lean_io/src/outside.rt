@@ -1,4 +1,4 @@
-ghost use Rattle.std.specs.Prelude.{◌≡◌, ℕ, ◌+◌, ◌-◌, ◌^◌, ◌<◌, ◌≤◌, ◌++◌, Bool, false, true, List, Option, Some, length, take, min, IfOk, OnOk, OnErr, option_map};
+ghost use Rattle.std.specs.Prelude.{◌≡◌, ℕ, ◌<◌, ◌≤◌, ◌++◌, Bool, false, true, List, Option, Some, length, take, IfOk, OnOk, OnErr, option_map};
 ghost use Rattle.lean_io.specs.Told.{Files, Opened, Reads, Rose};
 ghost use Rattle.lean_io.specs.Counts.{raised};
 

@@ -1,5 +1,5 @@
 //! The definitions of what is told, computed on small values.
-ghost use Rattle.std.specs.Prelude.{◌≡◌, ℕ, ◌-◌, ◌^◌, true, false, [], ◌∷◌, ◌++◌, Some, None, Ok, Err, codes, replicate};
+ghost use Rattle.std.specs.Prelude.{◌≡◌, ℕ, ◌-◌, ◌^◌, true, false, [], ◌∷◌, Some, None, Ok, Err, codes};
 ghost use Rattle.lean_io.specs.Counts.{raised};
 ghost use Rattle.lean_io.specs.Told.{Files, Rose, Opened, Reads};
 ghost use Rattle.lean_io.specs.MemSink.{new_sink, FailsNext, amount, taken, failed};
