@@ -1,6 +1,7 @@
 ghost use Rattle.std.specs.Prelude.{◌≤ℤ◌, pos, IfOk};
 ghost use Rattle.lean_fixed.specs.Ranges.{IsDay, IsPrintedMoment};
 
+use crate::cases::{answered, none};
 use lean_fixed::ranges::{LAST_DAY, LAST_PRINTED_MOMENT};
 use lean_fixed::{
     Day, Moment, Money, Price, Symbol, Window, day_text, laws, moment_text, money_text, price_text,
@@ -9,29 +10,8 @@ use lean_fixed::{
 use std::alloc::{AllocError, Global};
 use std::cmp::Ordering;
 use std::collections::HashMap;
-use std::fmt::Write;
 use std::str;
 use std::test::Fail;
-
-// The inputs of some cases, each with what the calls answer, as lines `input = answer`.
-fn answered<F: Fn(Global, &str) -> Result<String, Fail>>(
-    alloc: Global,
-    cases: &str,
-    answer: F,
-) -> Result<String, Fail>
-    requires { F.IsAlwaysCallable answer }
-{
-    let mut said = String::new(alloc);
-    for case in cases.lines() {
-        let (input, _) = case.split_once(" = ").ok_or("no answer")?;
-        writeln!(said, "{input} = {}", answer(alloc, input)?)?;
-    }
-    Ok(said)
-}
-
-fn none(alloc: Global) -> Result<String, Fail> {
-    Ok(String::from_str(alloc, "none")?)
-}
 
 const DIGITS: &str = "\
 0 = 0

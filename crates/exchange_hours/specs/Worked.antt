@@ -1,5 +1,5 @@
--- The hours on which worked values are computed.
-use Rattle.std.specs.Prelude.{ℕ, true, List, [], ◌∷◌, map}
+-- The hours and the file on which worked values are computed.
+use Rattle.std.specs.Prelude.{ℕ, true, List, [], ◌∷◌, ◌++◌, map, codes}
 use Rattle.exchange_hours.specs.declared.entries.Segment.{Segment}
 use Rattle.exchange_hours.specs.Entries.{Entries}
 
@@ -14,3 +14,10 @@ november_hours = record {
   holidays = 16037 ∷ [];
   early_closes = record { day = 16038; minute = 780 } ∷ record { day = 16038; minute = 840 } ∷ [];
 }
+
+-- a file with a Monday and a holiday
+abbrev pub monday_file : List ℕ
+monday_file =
+    codes "{\"entries\":{\"Equity-usa-[*]\":{\"monday\":["
+    ++ codes "{\"start\":\"09:30:00\",\"end\":\"16:00:00\",\"state\":\"market\"}],"
+    ++ codes "\"holidays\":[\"10/14/2013\"]}}}"

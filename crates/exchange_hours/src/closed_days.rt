@@ -63,7 +63,8 @@ pub(crate) fn read_early_closes(
     found: Option<&Value>,
     out: &mut Vec<EarlyClose>,
 ) -> Result<(), HoursFault>
-    ensures { Leaves (both (Ok out.old.items) (early_closes (option_map (λ v. view v.now) found.entry)))
+    ensures { Leaves
+        (both (Ok out.old.items) (early_closes (option_map (λ v. view v.now) found.entry)))
         out.new.items result }
 {
     let Some(value) = found else {

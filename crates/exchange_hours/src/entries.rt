@@ -1,5 +1,5 @@
 /// A part of each day of one weekday. Its minutes are counted from 00:00.
-#[derive(Clone, Copy, Debug, PartialEq, Eq)]
+#[derive(Clone, Copy)]
 pub struct Segment {
     /// 0 for Sunday to 6 for Saturday.
     pub weekday: u8,
@@ -10,7 +10,7 @@ pub struct Segment {
 }
 
 /// A day on which the exchange closes early.
-#[derive(Clone, Copy, Debug, PartialEq, Eq)]
+#[derive(Clone, Copy)]
 pub struct EarlyClose {
     /// Days since 1970-01-01.
     pub day: u32,

@@ -4,7 +4,7 @@ use thiserror::Error;
 /// Why an hours file was not read: its first fault, or want of memory. A file is gone through in this order: the JSON
 /// text, the entry of the market, the weekdays from Sunday to Saturday with their segments one after the other, the
 /// holidays, and the early closes by the byte order of the texts of their dates.
-#[derive(Clone, Copy, Debug, PartialEq, Eq, Error)]
+#[derive(Clone, Copy, Debug, Error)]
 pub enum HoursFault {
     /// The bytes are no JSON text.
     #[error("the hours file is no JSON")]

@@ -52,7 +52,8 @@ pub fn closings()
     ensures daily { (hours : Entries) → LieInDays hours
         → (t : ℕ) → is_closing hours t ≡ is_grid_end hours Daily t }
     ensures lie { (hours : Entries) → LieInDays hours
-        → (day t : ℕ) → close_of hours day ≡ Some t → (midnight day < t) × (t ≤ midnight (day + 1)) }
+        → (day t : ℕ) → close_of hours day ≡ Some t
+        → (midnight day < t) × (t ≤ midnight (day + 1)) }
     ensures rise { (hours : Entries) → LieInDays hours → (day later s t : ℕ) → day < later
         → close_of hours day ≡ Some s → close_of hours later ≡ Some t → s < t }
 {}

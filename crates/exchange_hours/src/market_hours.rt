@@ -39,16 +39,22 @@ pub struct Hours {
 }
 
 impl Model for Hours {
-    ghost use Rattle.std.specs.Prelude.{ℕ, ◌≡◌, ◌≤◌, vec_len};
     ghost use Rattle.exchange_hours.specs.Entries.{Entries};
+    ghost use Rattle.exchange_hours.specs.Table.{AreSpans};
 
     ghost Value = { Entries };
 
-    ghost use Rattle.exchange_hours.specs.Table.{AreSpans};
+    ghost view = { λ h. record {
+      segments = h.segments.items;
+      holidays = h.holidays.items;
+      early_closes = h.early_closes.items;
+    } };
 
-    ghost view = { λ h. record { segments = h.segments.items; holidays = h.holidays.items; early_closes = h.early_closes.items } };
-
-    ghost invariant = { λ h. AreSpans (record { segments = h.segments.items; holidays = h.holidays.items; early_closes = h.early_closes.items }) h.spans.items };
+    ghost invariant = { λ h. AreSpans (record {
+      segments = h.segments.items;
+      holidays = h.holidays.items;
+      early_closes = h.early_closes.items;
+    }) h.spans.items };
 }
 
 impl Hours {
@@ -158,7 +164,8 @@ impl Hours {
     // The least grid end past a moment that lies after 00:00 of a day and not after its 24:00.
     fn end_on(&self, resolution: Resolution, day: u32, after: u32) -> Option<u32>
         requires { day ≤ last_day }
-        ensures { IsNextFrom (IsGridEnd self.now resolution) (max after (midnight day)) (midnight day + minutes_per_day) result }
+        ensures { IsNextFrom (IsGridEnd self.now resolution)
+            (max after (midnight day)) (midnight day + minutes_per_day) result }
     {
         self.sessions_lie();
         let midnight = MINUTES_PER_DAY * day;

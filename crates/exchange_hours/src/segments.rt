@@ -19,7 +19,7 @@ pub(crate) fn read_week(entry: &Value, out: &mut Vec<Segment>) -> Result<(), Hou
     Ok(())
 }
 
-/// The name of a weekday in an hours file.
+// The name of a weekday in an hours file.
 fn weekday_name(weekday: u8) -> &'static str
     requires { weekday < 7 }
     ensures { result.now ≡ slice_index_or weekday_names weekday [] }
@@ -35,7 +35,7 @@ fn weekday_name(weekday: u8) -> &'static str
     }
 }
 
-/// Appends the segments of a weekday, of which there are none where it is not there.
+// Appends the segments of a weekday, of which there are none where it is not there.
 fn read_weekday(
     weekday: u8,
     found: Option<&Value>,
@@ -92,7 +92,8 @@ fn append_timed(
     end: Option<u16>,
     out: &mut Vec<Segment>,
 ) -> Result<(), HoursFault>
-    ensures { Leaves (both (Ok out.old.items) (timed weekday state.now start end)) out.new.items result }
+    ensures { Leaves (both (Ok out.old.items) (timed weekday state.now start end))
+        out.new.items result }
 {
     let (Some(start), Some(end)) = (start, end) else {
         return Err(HoursFault::TimeForm);

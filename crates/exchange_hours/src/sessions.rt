@@ -1,7 +1,7 @@
 use lean_fixed::Moment;
 
 /// The regular session of a day.
-#[derive(Clone, Copy, Debug, PartialEq, Eq)]
+#[derive(Clone, Copy)]
 pub struct Session {
     /// The first moment at which the exchange is open.
     pub opens: Moment,

@@ -4,7 +4,7 @@ ghost use Rattle.std.specs.Prelude.{◌≡◌, ◌<◌, ◌≤◌};
 use lean_fixed::Resolution;
 
 /// From the minute at which a session opens to the minute at which it closes, both counted from 00:00 of the day.
-#[derive(Clone, Copy, Debug, PartialEq, Eq)]
+#[derive(Clone, Copy)]
 pub struct Span {
     pub opens: u16,
     pub closes: u16,

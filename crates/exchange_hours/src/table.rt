@@ -1,7 +1,8 @@
 //! The hours of each day, in a table by its number.
-ghost use Rattle.std.specs.Prelude.{◌≡◌, ℕ, ◌+◌, ◌<◌, ◌==◌, if◌then◌else◌, length, slice_index_or, Some, None, IfErr, IfOk};
+ghost use Rattle.std.specs.Prelude.{◌≡◌, ℕ, ◌+◌, ◌<◌, ◌==◌, if◌then◌else◌, length, Some, None, IfErr, IfOk};
 ghost use Rattle.std.specs.List.{list_any};
 ghost use Rattle.lean_fixed.specs.Calendar.{last_day, weekday as day_of_week};
+ghost use Rattle.exchange_hours.specs.Table.{span_at};
 ghost use Rattle.exchange_hours.specs.Sessions.{widened, usual_span, early_close, shortened, span_on};
 ghost use Rattle.exchange_hours.specs.declared.fault.HoursFault.TheVariants.{NoMemory};
 
@@ -21,8 +22,12 @@ pub(crate) fn spans_of_days(
     early_closes: &[EarlyClose],
 ) -> Result<Vec<Option<Span>>, HoursFault>
     ensures whole { IfOk result (λ table. length table.items ≡ last_day + 1) }
-    ensures each { IfOk result (λ table. (day : ℕ) → slice_index_or table.items day None
-        ≡ span_on (record { segments = segments.now; holidays = holidays.now; early_closes = early_closes.now }) day) }
+    ensures each { IfOk result (λ table. (day : ℕ) → span_at table.items day ≡ span_on
+        (record {
+          segments = segments.now;
+          holidays = holidays.now;
+          early_closes = early_closes.now;
+        }) day) }
     ensures refused { IfErr result (λ fault. fault ≡ NoMemory) }
 {
     let mut table = usual_spans(alloc, segments)?;
@@ -31,10 +36,11 @@ pub(crate) fn spans_of_days(
     Ok(table)
 }
 
-/// The usual hours of each day's weekday.
+// The usual hours of each day's weekday.
 fn usual_spans(alloc: Global, segments: &[Segment]) -> Result<Vec<Option<Span>>, HoursFault>
     ensures whole { IfOk result (λ table. length table.items ≡ last_day + 1) }
-    ensures each { IfOk result (λ table. (day : ℕ) → day < last_day + 1 → slice_index_or table.items day None ≡ usual_span segments.now (day_of_week day)) }
+    ensures each { IfOk result (λ table. (day : ℕ) → day < last_day + 1
+        → span_at table.items day ≡ usual_span segments.now (day_of_week day)) }
     ensures refused { IfErr result (λ fault. fault ≡ NoMemory) }
 {
     let week = usual_week(segments);
@@ -46,7 +52,8 @@ fn usual_spans(alloc: Global, segments: &[Segment]) -> Result<Vec<Option<Span>>,
 }
 
 fn usual_week(segments: &[Segment]) -> [Option<Span>; 7]
-    ensures { (weekday : ℕ) → weekday < 7 → slice_index_or result weekday None ≡ usual_span segments.now weekday }
+    ensures { (weekday : ℕ) → weekday < 7
+        → span_at result weekday ≡ usual_span segments.now weekday }
 {
     let mut week = [None; 7];
     for weekday in 0..7 {
@@ -55,7 +62,7 @@ fn usual_week(segments: &[Segment]) -> [Option<Span>; 7]
     week
 }
 
-/// From the least start to the greatest end of a weekday's market segments.
+// From the least start to the greatest end of a weekday's market segments.
 fn usual_span(segments: &[Segment], weekday: u8) -> Option<Span>
     ensures { result ≡ usual_span segments.now weekday }
 {
@@ -80,9 +87,10 @@ fn widened(span: Option<Span>, segment: &Segment) -> Option<Span>
     }
 }
 
-/// Ends the hours of each day at its early close.
+// Ends the hours of each day at its early close.
 fn close_early(table: &mut [Option<Span>], closes: &[EarlyClose])
-    ensures { (day : ℕ) → slice_index_or table.new day None ≡ shortened (slice_index_or table.old day None) (early_close closes.now day) }
+    ensures { (day : ℕ) → span_at table.new day
+        ≡ shortened (span_at table.old day) (early_close closes.now day) }
 {
     for close in closes {
         shorten(table, *close);
@@ -90,8 +98,9 @@ fn close_early(table: &mut [Option<Span>], closes: &[EarlyClose])
 }
 
 fn shorten(table: &mut [Option<Span>], close: EarlyClose)
-    ensures { (day : ℕ) → slice_index_or table.new day None
-        ≡ (if close.day == day then shortened (slice_index_or table.old day None) (Some close.minute) else slice_index_or table.old day None) }
+    ensures { (day : ℕ) → span_at table.new day
+        ≡ (if close.day == day then shortened (span_at table.old day) (Some close.minute)
+        else span_at table.old day) }
 {
     let day = close.day as usize;
     if day < table.len() {
@@ -111,10 +120,11 @@ fn shortened(span: Option<Span>, minute: u16) -> Option<Span>
     }
 }
 
-/// Leaves no hours on a holiday.
+// Leaves no hours on a holiday.
 fn close_on_holidays(table: &mut [Option<Span>], holidays: &[u32])
-    ensures { (day : ℕ) → slice_index_or table.new day None
-        ≡ (if list_any (λ holiday. holiday == day) holidays.now then None else slice_index_or table.old day None) }
+    ensures { (day : ℕ) → span_at table.new day
+        ≡ (if list_any (λ holiday. holiday == day) holidays.now then None
+        else span_at table.old day) }
 {
     for holiday in holidays {
         close(table, *holiday);
@@ -122,8 +132,8 @@ fn close_on_holidays(table: &mut [Option<Span>], holidays: &[u32])
 }
 
 fn close(table: &mut [Option<Span>], holiday: u32)
-    ensures { (day : ℕ) → slice_index_or table.new day None
-        ≡ (if holiday == day then None else slice_index_or table.old day None) }
+    ensures { (day : ℕ) → span_at table.new day
+        ≡ (if holiday == day then None else span_at table.old day) }
 {
     let day = holiday as usize;
     if day < table.len() {

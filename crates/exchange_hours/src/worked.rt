@@ -7,7 +7,7 @@ ghost use Rattle.exchange_hours.specs.Times.{time_of, date_of, day_within};
 ghost use Rattle.exchange_hours.specs.Sessions.{session, is_open};
 ghost use Rattle.exchange_hours.specs.Grid.{is_grid_bar, is_grid_end, is_closing};
 ghost use Rattle.exchange_hours.specs.HoursFile.{us_equities, hours_of};
-ghost use Rattle.exchange_hours.specs.Worked.{usual_segment, november_hours};
+ghost use Rattle.exchange_hours.specs.Worked.{usual_segment, november_hours, monday_file};
 
 /// Times of day, 24:00 among them.
 pub fn times()
@@ -76,6 +76,9 @@ pub fn grid_ends()
 pub fn files()
     ensures no_json { hours_of us_equities (codes "{\"entries\": ") ≡ Err Json }
     ensures no_entry { hours_of us_equities (codes "{}") ≡ Err NoEntry }
-    ensures monday { hours_of us_equities (codes "{\"entries\":{\"Equity-usa-[*]\":{\"monday\":[{\"start\":\"09:30:00\",\"end\":\"16:00:00\",\"state\":\"market\"}],\"holidays\":[\"10/14/2013\"]}}}")
-        ≡ Ok (record { segments = usual_segment 1 ∷ []; holidays = 15992 ∷ []; early_closes = [] }) }
+    ensures monday { hours_of us_equities monday_file ≡ Ok (record {
+      segments = usual_segment 1 ∷ [];
+      holidays = 15992 ∷ [];
+      early_closes = [];
+    }) }
 {}

@@ -14,7 +14,7 @@ use lean_fixed::laws::{day_reads_back, symbol_is_short};
 use lean_fixed::{Day, NoMemory, Resolution, Symbol};
 use lean_items::{FeedKey, FeedKind};
 
-/// No path has more bytes.
+// No path has more bytes.
 const MOST: usize = 80;
 
 /// Appends the path of a feed's file, from the folder on. The number of the file is one that `next_file` gives: its day,

@@ -1,13 +1,12 @@
 //! The definitions, computed on values that are known.
-ghost use Rattle.std.specs.Prelude.{◌≡◌, ◌+◌, ◌-◌, pos, negsuc, codes, true, false, ◌∷◌, [], Some};
+ghost use Rattle.std.specs.Prelude.{◌≡◌, ◌+◌, ◌-◌, pos, negsuc, codes, ◌∷◌, [], Some};
 ghost use Rattle.lean_fixed.specs.declared.resolution.Resolution.TheVariants.{Minute, Hour, Daily};
-ghost use Rattle.lean_fixed.specs.declared.time.Window.{Window};
 ghost use Rattle.lean_fixed.specs.Moments.{midnight};
-ghost use Rattle.lean_items.specs.declared.feed_key.FeedKey.{FeedKey};
 ghost use Rattle.lean_items.specs.declared.feed_key.FeedKind.TheVariants.{Coarse, Equity};
 ghost use Rattle.exchange_hours.specs.Worked.{november_hours};
 ghost use Rattle.feed_paths.specs.Files.{files, files_after};
 ghost use Rattle.feed_paths.specs.Paths.{path_of};
+ghost use Rattle.feed_paths.specs.Worked.{spider, coarse, window};
 
 /// A path of each kind.
 pub fn paths()
@@ -20,57 +19,18 @@ pub fn paths()
 
 /// From noon of Wednesday 2013-11-27, the day before Thanksgiving, to Monday 2013-12-02.
 pub fn real_days()
-    ensures minute { let key : FeedKey = record {
-      kind = Equity (codes "SPY") Minute;
-      start = record { 0 = pos (midnight 16036 + 720) };
-      fill = true;
-    } in
-        let window : Window = record { first = record { 0 = pos 16036 }; last = record { 0 = pos 16041 } } in
-        files key window november_hours ≡ 16036 ∷ 16038 ∷ 16041 ∷ [] }
-    ensures past { let key : FeedKey = record {
-      kind = Equity (codes "SPY") Minute;
-      start = record { 0 = pos (midnight 16036 + 720) };
-      fill = true;
-    } in
-        let window : Window = record { first = record { 0 = pos 16036 }; last = record { 0 = pos 16041 } } in
-        files_after key window november_hours (Some 16037) ≡ 16038 ∷ 16041 ∷ [] }
-    ensures coarse { let key : FeedKey = record {
-      kind = Coarse;
-      start = record { 0 = pos (midnight 16036 - 1) };
-      fill = false;
-    } in
-        let window : Window = record { first = record { 0 = pos 16036 }; last = record { 0 = pos 16038 } } in
-        files key window november_hours ≡ 16035 ∷ 16036 ∷ 16037 ∷ [] }
-    ensures daily { let key : FeedKey = record {
-      kind = Equity (codes "SPY") Daily;
-      start = record { 0 = pos (midnight 16036) };
-      fill = true;
-    } in
-        let window : Window = record { first = record { 0 = pos 16036 }; last = record { 0 = pos 16041 } } in
-        files key window november_hours ≡ 0 ∷ [] }
+    ensures minute { files (spider Minute (pos (midnight 16036 + 720))) (window 16036 16041) november_hours
+        ≡ 16036 ∷ 16038 ∷ 16041 ∷ [] }
+    ensures past { files_after (spider Minute (pos (midnight 16036 + 720))) (window 16036 16041) november_hours
+        (Some 16037) ≡ 16038 ∷ 16041 ∷ [] }
+    ensures coarse { files (coarse (pos (midnight 16036 - 1))) (window 16036 16038) november_hours
+        ≡ 16035 ∷ 16036 ∷ 16037 ∷ [] }
+    ensures daily { files (spider Daily (pos (midnight 16036))) (window 16036 16041) november_hours ≡ 0 ∷ [] }
 {}
 
-/// The first days that there are: a feed that starts before them, and a window at them.
+/// The first days that there are: a feed that starts before them, and windows at them.
 pub fn first_days()
-    ensures minute { let key : FeedKey = record {
-      kind = Equity (codes "SPY") Minute;
-      start = record { 0 = negsuc 0 };
-      fill = true;
-    } in
-        let window : Window = record { first = record { 0 = pos 0 }; last = record { 0 = pos 5 } } in
-        files key window november_hours ≡ 0 ∷ 1 ∷ 4 ∷ 5 ∷ [] }
-    ensures coarse { let key : FeedKey = record {
-      kind = Coarse;
-      start = record { 0 = pos 0 };
-      fill = false;
-    } in
-        let window : Window = record { first = record { 0 = pos 0 }; last = record { 0 = pos 1 } } in
-        files key window november_hours ≡ 0 ∷ [] }
-    ensures no_coarse { let key : FeedKey = record {
-      kind = Coarse;
-      start = record { 0 = pos 0 };
-      fill = false;
-    } in
-        let window : Window = record { first = record { 0 = pos 0 }; last = record { 0 = pos 0 } } in
-        files key window november_hours ≡ [] }
+    ensures minute { files (spider Minute (negsuc 0)) (window 0 5) november_hours ≡ 0 ∷ 1 ∷ 4 ∷ 5 ∷ [] }
+    ensures coarse { files (coarse (pos 0)) (window 0 1) november_hours ≡ 0 ∷ [] }
+    ensures no_coarse { files (coarse (pos 0)) (window 0 0) november_hours ≡ [] }
 {}
