@@ -1,5 +1,5 @@
 -- The least file that is left, and the list of those that are left.
-use Rattle.std.proofs.Common.{ℕ, ◌+◌, ◌-◌, ◌≡◌, ◌≤◌, max, Bool, true, nat_lt, ℤ, pos, ◌-ℤ◌, List, [], ◌∷◌, filter, Option, Some, None, IfNone, IfSome, refl, sym, ap, ◌∙◌, arith}
+use Rattle.std.proofs.Common.{ℕ, ◌+◌, ◌≡◌, ◌≤◌, max, Bool, true, nat_lt, ℤ, pos, ◌-ℤ◌, List, [], ◌∷◌, filter, Option, Some, None, IfNone, IfSome, refl, sym, ap, ◌∙◌, arith}
 use Rattle.std.specs.List.Sorted.{IsStrictlyIncreasing}
 use Rattle.std.proofs.lemmas.List.Kept.{IsStrictlyIncreasing-filter}
 use Rattle.lean_fixed.specs.declared.time.Window.{Window}

@@ -1,6 +1,5 @@
 -- The least of some days.
-use Rattle.std.specs.Prelude.{ℕ, ◌+◌, ◌<◌, ◌≤◌, ◌≡◌, max, Bool, true, false, ℤ, Option, Some, None}
-use Rattle.feed_paths.specs.Files.{from_1970}
+use Rattle.std.specs.Prelude.{ℕ, ◌+◌, ◌<◌, ◌≤◌, ◌≡◌, max, Bool, true, false, Option, Some, None}
 
 -- the least day that passes a test, from one day on and before another, or nothing where there is none
 abbrev pub IsLeast : (ℕ → Bool) → ℕ → ℕ → Option ℕ → Type 0

@@ -1,6 +1,5 @@
 -- The parts of which a path is made.
-use Rattle.std.specs.Prelude.{ℕ, Bool, true, nat_le, List, length}
-use Rattle.std.specs.List.{list_all, flat_map}
+use Rattle.std.specs.Prelude.{ℕ, Bool, true, nat_le, List}
 use Rattle.lean_fixed.specs.Calendar.{last_day}
 use Rattle.lean_fixed.specs.Printed.{day_text}
 use Rattle.feed_paths.specs.Paths.{lower}

@@ -1,5 +1,5 @@
 use Rattle.std.proofs.Common.{◌++◌, length, string_bytes, sym, ap, ◌∙◌, arith}
-use Rattle.lean_fixed.specs.declared.resolution.Resolution.TheVariants.{Minute, Hour, Daily}
+use Rattle.lean_fixed.specs.declared.resolution.Resolution.TheVariants.{Minute}
 use Rattle.lean_items.specs.declared.feed_key.FeedKind.TheVariants.{Equity}
 use Rattle.feed_paths.specs.Paths.{path_of}
 use Rattle.feed_paths.proofs.PathLemmas.{minute_parts, hour_parts, daily_parts}

@@ -1,5 +1,5 @@
 -- The parts that were passed stand in the text, and there is room for the others.
-use Rattle.std.proofs.Common.{◌≡◌, ◌+◌, ◌≤◌, ◌++◌, length, take, drop, true, string_bytes, string_len, string_capacity}
+use Rattle.std.proofs.Common.{◌≡◌, ◌+◌, ◌≤◌, ◌++◌, length, drop, true, string_bytes, string_len, string_capacity}
 use Rattle.std.specs.List.{list_all, flat_map}
 use Rattle.feed_paths.specs.Parts.{part_text, has_text}
 use Rattle.feed_paths.proofs.paths.push_parts.Given as goal

@@ -1,4 +1,4 @@
-use Rattle.std.proofs.Common.{◌*◌, subst, arith}
+use Rattle.std.proofs.Common.{subst, arith}
 use Rattle.lean_fixed.specs.Moments.{midnight}
 use Rattle.exchange_hours.specs.Sessions.{LieInDays}
 use Rattle.exchange_hours.proofs.GridLemmas.{grid_lies}
