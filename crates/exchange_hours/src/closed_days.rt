@@ -1,5 +1,5 @@
 //! The days on which the exchange is closed, or closes early.
-ghost use Rattle.std.specs.Prelude.{Ok, option_map, map};
+ghost use Rattle.std.specs.Prelude.{Ok, option_map};
 ghost use Rattle.serde_json.specs.View.{view, items_view, members_view};
 ghost use Rattle.exchange_hours.specs.Times.{civil};
 ghost use Rattle.exchange_hours.specs.HoursFile.{both, each, listed, named, holiday_on, holiday, holidays, close_on, early_close, early_closes, Leaves};

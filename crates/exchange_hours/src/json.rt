@@ -1,8 +1,7 @@
 //! The JSON tree of an hours file, and the market's entry in it.
-ghost use Rattle.std.specs.Prelude.{◌≡◌, option_map, option_and_then, IfOk, Some, None};
-ghost use Rattle.serde_json.specs.Find.{as_str, get};
+ghost use Rattle.std.specs.Prelude.{◌≡◌, option_map};
 ghost use Rattle.serde_json.specs.View.{view};
-ghost use Rattle.exchange_hours.specs.HoursFile.{json_of, market_entry, if_object, text_at, IsTree};
+ghost use Rattle.exchange_hours.specs.HoursFile.{json_of, market_entry, text_at, IsTree};
 
 use crate::fault::HoursFault;
 use serde_json::Value;

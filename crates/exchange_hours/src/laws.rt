@@ -1,5 +1,5 @@
 //! What holds of all sessions and of all bars of a grid. Each law is the contract of a function that does nothing.
-ghost use Rattle.std.specs.Prelude.{◌≡◌, ℕ, ◌<◌, ◌≤◌, ◌+◌, ◌*◌, Some, None, true, false};
+ghost use Rattle.std.specs.Prelude.{◌≡◌, ℕ, ◌<◌, ◌≤◌, ◌+◌, Some, None, true, false};
 ghost use Rattle.lean_fixed.specs.Calendar.{last_day};
 ghost use Rattle.lean_fixed.specs.declared.resolution.Resolution.{Resolution};
 ghost use Rattle.lean_fixed.specs.declared.resolution.Resolution.TheVariants.{Daily};

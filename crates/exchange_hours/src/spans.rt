@@ -1,6 +1,4 @@
 //! The part of a day in which the exchange is open.
-ghost use Rattle.std.specs.Prelude.{◌≡◌, ◌<◌, ◌≤◌};
-
 use lean_fixed::Resolution;
 
 /// From the minute at which a session opens to the minute at which it closes, both counted from 00:00 of the day.
@@ -11,7 +9,7 @@ pub struct Span {
 }
 
 impl Span {
-    ghost use Rattle.exchange_hours.specs.Spans.{IsSpan, IsEnd, IsNextEnd};
+    ghost use Rattle.exchange_hours.specs.Spans.{IsSpan, IsNextEnd};
 
     /// The least end past `minute` of a bar that lies in these hours.
     pub(crate) fn end_past(self, resolution: Resolution, minute: u32) -> Option<u32>

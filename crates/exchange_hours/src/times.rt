@@ -1,5 +1,5 @@
 //! The times of day and the dates that an hours file spells.
-ghost use Rattle.std.specs.Prelude.{◌≡◌, ◌≤◌, pos, is_some, bytes_eq, codes, IfSome, option_map};
+ghost use Rattle.std.specs.Prelude.{◌≡◌, ◌≤◌, IfSome};
 ghost use Rattle.lean_fixed.specs.Moments.{minutes_per_day};
 ghost use Rattle.exchange_hours.specs.Times.{clock, hour_minute, without_seconds, time_of};
 

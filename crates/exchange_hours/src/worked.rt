@@ -1,5 +1,5 @@
 //! The definitions, computed on texts and days whose values are known.
-ghost use Rattle.std.specs.Prelude.{◌≡◌, ◌+◌, ◌*◌, codes, map, true, false, ◌∷◌, [], Some, None, Ok, Err, option_and_then};
+ghost use Rattle.std.specs.Prelude.{◌≡◌, ◌+◌, codes, map, true, false, ◌∷◌, [], Some, None, Ok, Err, option_and_then};
 ghost use Rattle.lean_fixed.specs.declared.resolution.Resolution.TheVariants.{Minute, Hour, Daily};
 ghost use Rattle.lean_fixed.specs.Moments.{minutes_per_day, midnight};
 ghost use Rattle.exchange_hours.specs.declared.fault.HoursFault.TheVariants.{NoEntry, Json};
