@@ -1,0 +1,13 @@
+//! Tests of orders, costs, fills, accounts and buying power by their public calls: outside values as lines of text.
+#![tactic(auto)]
+
+#[cfg(test)]
+mod cases;
+#[cfg(test)]
+mod costs;
+#[cfg(test)]
+mod fills;
+#[cfg(test)]
+mod power;
+#[cfg(test)]
+mod sums;
