@@ -3,3 +3,4 @@ pub mod Numbers
 pub mod Turns
 pub mod SoFar
 pub mod Heard
+pub mod Between

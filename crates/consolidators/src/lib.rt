@@ -5,6 +5,7 @@
 mod buckets;
 mod consolidator;
 mod given;
+pub mod laws;
 mod turn;
 mod worked;
 
