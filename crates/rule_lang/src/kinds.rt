@@ -22,26 +22,31 @@ pub fn typed(node: &Node, want: Want) -> Result<(), RuleFault>
     }
 }
 
-// The least place of an operator that has an operand of the wrong kind.
+// The least place of an operator that has an operand of the wrong kind. A chain of operators is gone down in a loop.
 #[tactic(auto, unfolding(crate::specs::Kinds::misfits), using(crate::proofs::Places::places))]
 fn misfit(node: &Node) -> Option<u32>
     ensures { result ≡ spec.least (spec.misfits (tree node.now)) }
 {
-    match node {
-        Node::Number(_) | Node::Named(_) | Node::Windowed(_, _) => None,
-        Node::Denied(at, inner) => {
-            sooner(unless_same(Want::Truth, kind_of(inner), *at), misfit(inner))
-        }
-        Node::Negated(at, inner) => {
+    let mut place = None;
+    let mut rest = node;
+    while let Node::Binary(op, at, left, right) = rest {
+        let here = operands_misfit(*op, *at, kind_of(left), kind_of(right));
+        place = sooner(place, sooner(here, misfit(right)));
+        rest = left;
+    }
+    match rest {
+        Node::Denied(at, inner) => sooner(
+            place,
+            sooner(unless_same(Want::Truth, kind_of(inner), *at), misfit(inner)),
+        ),
+        Node::Negated(at, inner) => sooner(
+            place,
             sooner(
                 unless_same(Want::Number, kind_of(inner), *at),
                 misfit(inner),
-            )
-        }
-        Node::Binary(op, at, left, right) => {
-            let here = operands_misfit(*op, *at, kind_of(left), kind_of(right));
-            sooner(sooner(here, misfit(left)), misfit(right))
-        }
+            ),
+        ),
+        _ => place,
     }
 }
 
