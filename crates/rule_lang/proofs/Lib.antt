@@ -5,3 +5,4 @@ pub mod Chains
 pub mod Places
 pub mod Numbers
 pub mod Lengths
+pub mod Typed

@@ -100,3 +100,10 @@ truth_of view values (negated at x) = false
 truth_of view values (binary op at x y) =
     joined op (truth_of view values x) (truth_of view (behind x values) y)
     (compared op (number_of view values x) (number_of view (behind x values) y))
+
+-- the number and the truth of a whole expression in a view, which has the values of its windows
+abbrev pub number_in : View → Tree → Option ℤ
+number_in view tree = number_of view view.windows tree
+
+abbrev pub truth_in : View → Tree → Bool
+truth_in view tree = truth_of view view.windows tree

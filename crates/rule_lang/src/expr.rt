@@ -2,7 +2,7 @@ ghost use Rattle.std.specs.Prelude.{◌≡◌, ◌≤◌, length, All};
 ghost use Rattle.rule_lang.specs.Tree.{windows_of};
 ghost use Rattle.rule_lang.specs.Nodes.{tree};
 ghost use Rattle.rule_lang.specs.Reading.{reading, Gives};
-ghost use Rattle.rule_lang.specs.Values.{number_of, truth_of};
+ghost use Rattle.rule_lang.specs.Values.{number_in, truth_in};
 
 use crate::grammar::Reader;
 use crate::kinds::typed;
@@ -81,7 +81,7 @@ impl Expr {
     /// window of it has none, a divisor is 0, or the result of an operation, or the product before its division, is
     /// beyond 10^38 either way. An expression that is a truth has no number.
     pub fn number(&self, view: &View) -> Option<i128>
-        ensures { result ≡ number_of view.now view.now.windows self.now }
+        ensures { result ≡ number_in view.now self.now }
     {
         number(&self.node, view)
     }
@@ -89,7 +89,7 @@ impl Expr {
     /// Whether the expression is true in a view. A comparison with an operand that has no value is false, and so is an
     /// expression that is a number.
     pub fn truth(&self, view: &View) -> bool
-        ensures { result ≡ truth_of view.now view.now.windows self.now }
+        ensures { result ≡ truth_in view.now self.now }
     {
         truth(&self.node, view)
     }

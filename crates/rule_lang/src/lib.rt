@@ -7,6 +7,7 @@ mod expr;
 mod fault;
 mod grammar;
 mod kinds;
+pub mod laws;
 mod node;
 mod scan;
 mod token;
