@@ -1,10 +1,11 @@
 //! The daily tape: the rows of daily files by date and then in the order of the words.
-ghost use Rattle.std.specs.Prelude.{◌≡◌, ℕ, ◌+◌, ◌<◌, ◌≤◌, ◌++◌, ◌∷◌, [], List, length, take, drop, IfOk, OnOk, OnErr, IfErr, IfSome, IsNone, MatchOption};
+ghost use Rattle.std.specs.Prelude.{◌≡◌, ℕ, ◌+◌, ◌-◌, ◌<◌, ◌≤◌, ◌++◌, ◌∷◌, [], List, length, take, drop, IfOk, OnOk, OnErr, IfErr, IfSome, IsNone, MatchOption};
 ghost use Rattle.std.specs.List.{AllByRecursion, AllZip};
 ghost use Rattle.lean_fixed.specs.Calendar.{last_day};
+ghost use Rattle.lean_fixed.specs.Printed.{day_text};
 ghost use Rattle.lean_io.specs.Told.{Files};
 ghost use Rattle.lean_top.specs.DailyTape.{Security, step_of, tape, tape_line, tape_text};
-ghost use Rattle.lean_top.specs.Entry.{IsDaily};
+ghost use Rattle.lean_top.specs.Entry.{row_day};
 ghost use Rattle.lean_top.specs.Head.{StandsPast};
 ghost use Rattle.lean_top.specs.Printed.{IsPrinted, IsFront, HasCause, HasRoom};
 ghost use Rattle.lean_top.specs.Source.{IsSound, Follows};
@@ -16,6 +17,7 @@ use crate::head::Head;
 use crate::line::append_line;
 use crate::print::{Stop, turn_page};
 use crate::source::Source;
+use lean_fixed::Day;
 use lean_fixed::ranges::{LAST_DAY, MINUTES_PER_DAY};
 use lean_io::{Hand, Sink};
 
@@ -74,11 +76,13 @@ fn step_of_row(row: &DailyRow) -> u32
 
 // Prints the row that is the head of a security, and goes on behind it.
 fn print_row<H: Hand, S: Sink>(
+    date: &[u8],
     row: DailyRow,
     source: &mut Source<H>,
     page: &mut Vec<u8>,
     out: &mut S,
 ) -> Result<(), Stop>
+    requires date { date.now ≡ day_text (row_day row.row) }
     requires head { source.old.head ≡ Head.Row row }
     requires sound { IsSound H.is_open H.faults source.old }
     ensures sound { IsSound H.is_open H.faults source.new }
@@ -94,7 +98,7 @@ fn print_row<H: Hand, S: Sink>(
     ensures cause { IfErr result (HasCause (S.faults out.old) (S.faults out.new)) }
     ensures grows { S.faults out.old ≤ S.faults out.new }
 {
-    append_line(&source.symbol, &row.row, page)?;
+    append_line(date, &source.symbol, &row.row, page)?;
     source.advance(row);
     turn_page(page, out)
 }
@@ -102,10 +106,12 @@ fn print_row<H: Hand, S: Sink>(
 // Prints the row of a security where it stands at the step, and goes on behind it. It gives the number of rows.
 fn print_source<H: Hand, S: Sink>(
     step: u32,
+    date: &[u8],
     source: &mut Source<H>,
     page: &mut Vec<u8>,
     out: &mut S,
 ) -> Result<u64, Stop>
+    requires date { date.now ≡ day_text (step - 1) }
     requires sound { IsSound H.is_open H.faults source.old }
     requires ahead { IsAhead step source.old.head }
     requires room { HasRoom page.old.items }
@@ -129,7 +135,7 @@ fn print_source<H: Hand, S: Sink>(
             if step_of_row(&row) != step {
                 return Ok(0);
             }
-            match print_row(row, source, page, out) {
+            match print_row(date, row, source, page, out) {
                 Ok(()) => Ok(1),
                 Err(stop) => Err(stop),
             }
@@ -147,6 +153,8 @@ fn print_step<H: Hand, S: Sink>(
     page: &mut Vec<u8>,
     out: &mut S,
 ) -> Result<u64, Stop>
+    requires first { 1 ≤ step }
+    requires last { step ≤ last_day + 1 }
     requires sound { AllByRecursion (IsSound H.is_open H.faults) sources.old.items }
     requires ahead { AllAhead step sources.old.items }
     requires room { HasRoom page.old.items }
@@ -167,10 +175,11 @@ fn print_step<H: Hand, S: Sink>(
     ensures cause { IfErr result (HasCause (S.faults out.old) (S.faults out.new)) }
     ensures grows { S.faults out.old ≤ S.faults out.new }
 {
+    let date = Day(step as i32 - 1).digits();
     let mut rows: u64 = 0;
     for place in 0..sources.len() {
         let source = &mut sources[place];
-        rows += print_source(step, source, page, out)?;
+        rows += print_source(step, &date, source, page, out)?;
     }
     Ok(rows)
 }

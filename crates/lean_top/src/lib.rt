@@ -14,6 +14,8 @@ mod source;
 mod sources;
 mod status;
 mod tape;
+#[cfg(test)]
+mod tests;
 mod top;
 mod words;
 

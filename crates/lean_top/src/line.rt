@@ -1,24 +1,28 @@
 //! The lines of the daily tape.
 ghost use Rattle.std.specs.Prelude.{◌≡◌, ◌++◌, unsigned_abs, OnOk};
-ghost use Rattle.lean_fixed.specs.Printed.{money_text};
+ghost use Rattle.lean_fixed.specs.Printed.{day_text, money_text};
 ghost use Rattle.lean_top.specs.Entry.{row_day, IsDaily};
-ghost use Rattle.lean_fixed.specs.Ranges.{IsDay};
 ghost use Rattle.lean_top.specs.DailyTape.{part, tape_line, end_line, data_line};
 
 use crate::path::daily_path;
 use equity_csv::Row;
 use itoa::Buffer;
-use lean_fixed::ranges::MINUTES_PER_DAY;
-use lean_fixed::{Day, NoMemory, Price, Symbol, day_text, price_text};
+use lean_fixed::{NoMemory, Price, Symbol, price_text};
 use lean_items::Bad;
 use std::alloc::Global;
 
-/// Appends the line of a row.
-pub fn append_line(symbol: &Symbol, row: &Row, page: &mut Vec<u8>) -> Result<(), NoMemory>
-    requires { IsDaily row.now }
+/// Appends the line of a row, whose date is passed as its eight digits, since the rows of one day share it.
+pub fn append_line(
+    date: &[u8],
+    symbol: &Symbol,
+    row: &Row,
+    page: &mut Vec<u8>,
+) -> Result<(), NoMemory>
+    requires date { date.now ≡ day_text (row_day row.now) }
+    requires daily { IsDaily row.now }
     ensures { OnOk result (page.new.items ≡ page.old.items ++ tape_line (symbol.now, row.now)) }
 {
-    day_text(day_of(row), page)?;
+    page.extend_from_slice(date)?;
     append_part(symbol.bytes(), page)?;
     append_price(row.opening, page)?;
     append_price(row.high, page)?;
@@ -70,15 +74,6 @@ fn append_price(price: Price, page: &mut Vec<u8>) -> Result<(), NoMemory>
 {
     page.push(b' ')?;
     price_text(price, page)
-}
-
-/// The day on which a row starts.
-fn day_of(row: &Row) -> Day
-    requires { IsDaily row.now }
-    ensures value { unsigned_abs result.0 ≡ row_day row.now }
-    ensures range { IsDay result.0 }
-{
-    Day((row.start.0 / MINUTES_PER_DAY as i64) as i32)
 }
 
 fn volume_of(row: &Row) -> u64
