@@ -1,5 +1,6 @@
 -- The trees of the code, which hold boxes and the places of windows in a list.
-use Rattle.std.specs.Prelude.{◌≡◌, ℕ, ◌+◌, ◌≤◌, List, ◌++◌, length}
+use Rattle.std.specs.Prelude.{◌≡◌, ℕ, ◌+◌, List, ◌++◌, length}
+use Rattle.bar_windows.specs.Kept.{IsLength}
 use Rattle.bar_windows.specs.declared.spec.WindowSpec.{WindowSpec}
 use Rattle.rule_lang.specs.declared.node.Node.{Node, Number, Named, Windowed, Denied', Negated', Binary'}
 use Rattle.rule_lang.specs.Tree.{Tree, number, named, window, denied, negated, binary, windows_of}
@@ -15,7 +16,7 @@ tree (Binary' op at p x q y) = binary op at (tree x) (tree y)
 
 -- the length of a window
 abbrev pub HasLength : WindowSpec → Type 0
-HasLength spec = (1 ≤ spec.length) × (spec.length ≤ 1000)
+HasLength spec = IsLength spec.length
 
 -- its windows have the places from a number on, as they stand in the text
 abbrev pub IsNumbered : Node → ℕ → Type 0

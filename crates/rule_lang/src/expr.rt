@@ -1,4 +1,5 @@
 ghost use Rattle.std.specs.Prelude.{◌≡◌, ◌≤◌, length, All};
+ghost use Rattle.bar_windows.specs.Kept.{IsLength};
 ghost use Rattle.rule_lang.specs.Tree.{windows_of};
 ghost use Rattle.rule_lang.specs.Nodes.{tree};
 ghost use Rattle.rule_lang.specs.Reading.{reading, Gives};
@@ -72,7 +73,7 @@ impl Expr {
     /// twice. Their lengths are from 1 to 1,000.
     pub fn windows(&self) -> &[WindowSpec]
         ensures windows { result.now ≡ windows_of self.now }
-        ensures lengths { All (λ spec. (1 ≤ spec.length) × (spec.length ≤ 1000)) result.now }
+        ensures lengths { All (λ spec. IsLength spec.length) result.now }
     {
         &self.windows
     }

@@ -2,6 +2,7 @@
 //! four levels. Only what opens a level calls the rules anew, and so the calls are as deep as the levels that are open.
 
 ghost use Rattle.std.specs.Prelude.{◌≡◌, ◌+◌, ◌≤◌, ◌<◌, Ok, IfOk, IfSome, length};
+ghost use Rattle.bar_windows.specs.Kept.{IsLength};
 ghost use Rattle.rule_lang.specs.declared.token.Level.TheVariants.{Compared};
 ghost use Rattle.rule_lang.specs.Grammar as spec;
 ghost use Rattle.rule_lang.specs.Nodes.{tree, Adds};
@@ -86,7 +87,7 @@ impl Reader<'_> {
     #[tactic(auto, unfolding(crate::specs::Grammar::window_length))]
     fn window_length(&mut self) -> Result<u32, RuleFault>
         ensures reads { Reads (λ n. n) result (spec.window_length self.old.rest.now) self.new.rest.now }
-        ensures length { IfOk result (λ n. (1 ≤ n) × (n ≤ 1000)) }
+        ensures length { IfOk result IsLength }
         ensures shorter { length self.new.rest.now ≤ length self.old.rest.now }
         ensures windows { self.new.windows ≡ self.old.windows }
     {
