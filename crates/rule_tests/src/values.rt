@@ -1,5 +1,7 @@
+ghost use Rattle.std.specs.Prelude.{◌≡◌, ◌≤◌, length};
+
 use crate::cases::{answered, fault_text, read};
-use bar_windows::{Func, WindowSpec};
+use bar_windows::{Func, WindowSpec, Windows};
 use lean_fixed::{Moment, Money, Price, Shares};
 use lean_items::Bar;
 use rule_lang::{Expr, View, Want, WindowValues};
@@ -51,7 +53,11 @@ fn window_value(spec: WindowSpec) -> Option<i64> {
 
 fn value(alloc: Global, expression: &Expr) -> Result<String, Fail> {
     let view = view(window_values(alloc, expression.windows())?);
-    match expression.number(&view) {
+    number_text(alloc, expression.number(&view))
+}
+
+fn number_text(alloc: Global, number: Option<i128>) -> Result<String, Fail> {
+    match number {
         Some(units) => Ok(format!(in alloc; "{units}")?),
         None => Ok(String::from_str(alloc, "none")?),
     }
@@ -238,6 +244,71 @@ change(4) < 1 and 1 < 2 = false
 #[test]
 fn gives_truths(rt: HostRuntime) -> Result<(), Fail> {
     assert_eq!(rt; answered(rt.alloc(), TRUTHS, truth_of)?.as_str(), TRUTHS);
+    Ok(())
+}
+
+// Hears the closes 100 to 600.
+fn hear_closes(windows: &mut Windows)
+    ensures { windows.new.specs ≡ windows.old.specs }
+{
+    for hundreds in 1..7u32 {
+        windows.push(Price(hundreds as i64 * 100));
+    }
+}
+
+fn values_now(alloc: Global, windows: &Windows, count: usize) -> Result<WindowValues, AllocError>
+    requires { count ≤ length windows.now.specs }
+{
+    let mut values = Vec::new(alloc);
+    for place in 0..count {
+        values.push(windows.value(place))?;
+    }
+    Ok(WindowValues(values))
+}
+
+fn heard(alloc: Global, expression: &Expr) -> Result<WindowValues, Fail> {
+    let specs = expression.windows();
+    let mut windows = Windows::new(alloc, specs).map_err(|_| "no memory")?;
+    hear_closes(&mut windows);
+    Ok(values_now(alloc, &windows, specs.len())?)
+}
+
+fn value_after_closes(alloc: Global, text: &str) -> Result<String, Fail> {
+    match read(alloc, text, Want::Number)? {
+        Ok(expression) => {
+            let view = view(heard(alloc, &expression)?);
+            number_text(alloc, expression.number(&view))
+        }
+        Err(fault) => fault_text(alloc, fault),
+    }
+}
+
+const CLOSES: &str = "sma(4) = 450
+sma(6) = 350
+sma(7) = none
+highest(3) = 600
+lowest(3) = 400
+change(5) = 500
+change(6) = none
+sma(2) - lowest(2) + highest(1) = 650
+";
+
+#[test]
+fn gives_values_of_windows(rt: HostRuntime) -> Result<(), Fail> {
+    assert_eq!(rt;
+        answered(rt.alloc(), CLOSES, value_after_closes)?.as_str(),
+        CLOSES
+    );
+    Ok(())
+}
+
+#[test]
+fn gives_a_window_another_value(rt: HostRuntime) -> Result<(), Fail> {
+    let mut windows = WindowValues(vec![in rt.alloc(); Some(1), None]?);
+    windows.set(1, Some(7));
+    let read = read(rt.alloc(), "lowest(9) - sma(4)", Want::Number)?;
+    let expression = read.map_err(|_| "a fault")?;
+    assert_eq!(rt; expression.number(&view(windows)), Some(-6));
     Ok(())
 }
 
