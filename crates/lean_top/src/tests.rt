@@ -41,27 +41,27 @@ impl<H: Hand> Hand for SlowHand<H> {
 
 /// A folder whose hands read one byte at a time.
 #[derive(Drop)]
-struct SlowFolder {
-    inner: MemFolder,
+struct SlowFolder<F> {
+    inner: F,
 }
 
-impl Folder for SlowFolder {
+impl<F: Folder + Drop> Folder for SlowFolder<F> {
     ghost use Rattle.std.specs.Prelude.{None};
 
-    type H = SlowHand<<MemFolder as Folder>::H>;
+    type H = SlowHand<F::H>;
 
     ghost files = { λ _. None };
 
-    ghost faults = { λ f. ⟦<MemFolder as Folder>⟧.faults f.inner };
+    ghost faults = { λ f. F.faults f.inner };
 
-    fn hand(&mut self, alloc: Global) -> Result<SlowHand<<MemFolder as Folder>::H>, NoMemory> {
+    fn hand(&mut self, alloc: Global) -> Result<SlowHand<F::H>, NoMemory> {
         match self.inner.hand(alloc) {
             Ok(inner) => Ok(SlowHand { inner }),
             Err(NoMemory) => Err(NoMemory),
         }
     }
 
-    fn take_back(&mut self, hand: SlowHand<<MemFolder as Folder>::H>) {
+    fn take_back(&mut self, hand: SlowHand<F::H>) {
         self.inner.take_back(hand.inner);
     }
 }
