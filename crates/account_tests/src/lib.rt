@@ -8,6 +8,8 @@ mod costs;
 #[cfg(test)]
 mod fills;
 #[cfg(test)]
+mod lines;
+#[cfg(test)]
 mod power;
 #[cfg(test)]
 mod sums;
