@@ -1,8 +1,9 @@
-//! The lines in which a report tells each order's life, both ways: what is written is read as the same event, and what is
-//! read writes the same bytes.
+//! The lines in which a report tells each order's life, both ways: what is written is read as the same event (`laws`), and
+//! what is read writes the same bytes.
 #![tactic(auto)]
 
 mod kinds;
+pub mod laws;
 mod moments;
 mod numbers;
 mod put;
