@@ -7,4 +7,5 @@ pub mod Moments
 pub mod Padded
 pub mod Printed
 pub mod Ranges
+pub mod Counts
 pub mod ReadBack

@@ -1,13 +1,10 @@
 -- What folders and hands tell, and what a call of theirs says of it.
-use Rattle.std.specs.Prelude.{◌≡◌, ℕ, ◌+◌, ◌-◌, ◌^◌, ◌≤◌, ◌↔◌, ◌⊎◌, Bool, List, [], ◌++◌, take, min, Option, Some, None, if◌then◌else◌}
+use Rattle.std.specs.Prelude.{◌≡◌, ℕ, ◌↔◌, ◌⊎◌, Bool, List, [], ◌++◌, take, Option, Some, None, if◌then◌else◌}
+pub use Rattle.lean_fixed.specs.Counts.{Rose}
 
 -- the files that a folder or a hand tells: at each path the bytes of its file, or nothing
 abbrev pub Files : Type 0
 Files = List ℕ → Option (List ℕ)
-
--- a count of faults rose in a call, or stands at its last value
-abbrev pub Rose : ℕ → ℕ → Type 0
-Rose before now = min (before + 1) (2 ^ 64 - 1) ≤ now
 
 -- an opening found a file exactly where the path has one, and then its bytes are still to be read
 abbrev pub Opened : Files → List ℕ → Bool → List ℕ → Type 0

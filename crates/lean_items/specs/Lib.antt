@@ -1,2 +1,5 @@
 pub mod Reasons
 pub mod Coarse
+pub mod Given
+pub mod Taken
+pub mod Fits
