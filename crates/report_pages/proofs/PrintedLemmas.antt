@@ -2,7 +2,7 @@
 use Rattle.std.proofs.Common.{◌≡◌, ℕ, ◌≤◌, List, [], ◌++◌, refl, sym, ap, ◌∙◌, take, drop, take-append-drop, append_assoc, append-nil, Option, Some, None, Result, Ok, Err, length, length-append, arith, ◌∷◌, ◌+◌}
 use Rattle.std.specs.Prelude.{option_map, flat_map, OnErr, OnOk}
 use Rattle.std.proofs.lemmas.Grind.{flat_map-append}
-use Rattle.lean_top.specs.Printed.{IsTaken, IsPrinted, IsFront}
+use Rattle.report_pages.specs.Printed.{IsTaken, IsPrinted, IsFront}
 
 pub IsTaken-nothing : (told : Option (List ℕ)) → IsTaken told told []
 IsTaken-nothing None = refl

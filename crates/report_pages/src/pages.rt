@@ -1,6 +1,6 @@
 //! What is printed stands on a page first, and a full page goes to the sink.
 ghost use Rattle.std.specs.Prelude.{◌≡◌, ◌≤◌, ◌++◌, [], OnOk, OnErr, IfErr};
-ghost use Rattle.lean_top.specs.Printed.{IsPrinted, IsFront, HasCause, HasRoom};
+ghost use Rattle.report_pages.specs.Printed.{IsPrinted, IsFront, HasCause, HasRoom};
 
 use lean_fixed::NoMemory;
 use lean_io::{Sink, WriteFault, write_whole};
@@ -15,7 +15,7 @@ pub enum Stop {
 
 impl From<NoMemory> for Stop {
     ghost use Rattle.std.specs.Prelude.{◌≡◌};
-    ghost use Rattle.lean_top.specs.declared.print.Stop.TheVariants.{NoMemory};
+    ghost use Rattle.report_pages.specs.declared.pages.Stop.TheVariants.{NoMemory};
 
     ghost from_gives = { λ _ stop. stop ≡ NoMemory };
 
@@ -26,7 +26,7 @@ impl From<NoMemory> for Stop {
 
 impl From<AllocError> for Stop {
     ghost use Rattle.std.specs.Prelude.{◌≡◌};
-    ghost use Rattle.lean_top.specs.declared.print.Stop.TheVariants.{NoMemory};
+    ghost use Rattle.report_pages.specs.declared.pages.Stop.TheVariants.{NoMemory};
 
     ghost from_gives = { λ _ stop. stop ≡ NoMemory };
 
@@ -37,7 +37,7 @@ impl From<AllocError> for Stop {
 
 impl<T: Drop> From<AllocFailed<T>> for Stop {
     ghost use Rattle.std.specs.Prelude.{◌≡◌};
-    ghost use Rattle.lean_top.specs.declared.print.Stop.TheVariants.{NoMemory};
+    ghost use Rattle.report_pages.specs.declared.pages.Stop.TheVariants.{NoMemory};
 
     ghost from_gives = { λ _ stop. stop ≡ NoMemory };
 

@@ -1,8 +1,8 @@
 -- What stands in a sink and on the page before it.
 use Rattle.std.specs.Prelude.{◌≡◌, ◌<◌, ℕ, List, ◌++◌, length, Option, option_map}
 use Rattle.lean_io.specs.Told.{Rose}
-use Rattle.lean_top.specs.declared.print.Stop.{Stop}
-use Rattle.lean_top.specs.declared.print.Stop.TheVariants.{NoMemory, WriteFault}
+use Rattle.report_pages.specs.declared.pages.Stop.{Stop}
+use Rattle.report_pages.specs.declared.pages.Stop.TheVariants.{NoMemory, WriteFault}
 
 -- the sink took these bytes
 abbrev pub IsTaken : Option (List ℕ) → Option (List ℕ) → List ℕ → Type 0
