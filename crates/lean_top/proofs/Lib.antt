@@ -7,6 +7,8 @@ pub mod NextLemmas
 pub mod Stepping
 pub mod Walking
 pub mod WordLemmas
+pub mod HoursLemmas
+pub mod WindowLemmas
 pub mod Reporting
 pub mod SourceLemmas
 pub mod Running

@@ -18,8 +18,14 @@ use Rattle.lean_top.specs.declared.source.Source.{Source}
 use Rattle.lean_top.specs.declared.status.Status.{Status}
 use Rattle.lean_top.specs.declared.status.Status.TheVariants.{Done, BadRow, ReadFault}
 use Rattle.lean_top.specs.DailyTape.{Security, TapeRow, Refusal, refusal, tape, tape_step, tape_line, tape_text, refusal_line, last_line, tape_report_of}
-use Rattle.lean_top.specs.Endings.{IsWhole, EndsAt, HasStopped, EndsSo, IsTape, IsLastAt, IsLast, HasFaulted, IsTapeReport, IsTapeFront}
-use Rattle.report_pages.specs.Lines.{end_line}
+use Rattle.lean_top.specs.Whole.{IsWhole}
+use Rattle.lean_items.specs.declared.bad.Bad.{Bad as BadLine}
+use Rattle.lean_items.specs.declared.feed_key.FeedKind.{FeedKind}
+use Rattle.lean_items.specs.declared.feed_key.FeedKind.TheVariants.{Equity}
+use Rattle.lean_fixed.specs.declared.resolution.Resolution.TheVariants.{Daily}
+use Rattle.feed_paths.specs.Paths.{path_of}
+use Rattle.lean_top.specs.Endings.{EndsAt, HasStopped, EndsSo, IsTape, IsLastAt, IsLast, HasFaulted, IsTapeReport, IsTapeFront}
+use Rattle.report_pages.specs.Lines.{end_line, data_line}
 use Rattle.report_pages.specs.Printed.{IsPrinted, IsTaken, IsFront}
 use Rattle.lean_top.specs.Head.{HasCause}
 use Rattle.lean_top.specs.Source.{IsSound}
@@ -154,3 +160,18 @@ module _ {H : Type 0} (sources : List (Source H)) (ending : Ending) (place : ℕ
       (let head : the_stop.source.head ≡ Faulted = ap (λ (s : Source H). s.head) stop_source ∙ faulted fault in
       let rose : Rose 0 (faults (hand_of the_stop.source.lines)) = subst (HasCause 0 (faults (hand_of the_stop.source.lines))) head here.cause in
       subst (HasFaulted faults) (sym the_stop.is) (faulted_at faults the_stop.before the_stop.source the_stop.after rose))) h
+
+one_file : (symbol : List ℕ) (bad : BadLine) → data_line (Equity symbol Daily) (record bad { file = 0 }) ≡ data_line (Equity symbol Daily) bad
+unfolding data_line path_of
+one_file symbol bad = refl
+
+-- the line of a malformed line, which is one of the only file of its security
+pub bad_line_at : (symbol : List ℕ) (head : Head) (bad in_file : BadLine) (kind : FeedKind) (old new : List ℕ) → head ≡ Bad bad
+    → in_file ≡ record bad { file = 0 } → kind ≡ Equity symbol Daily → (in_file.file ≤ last_day → new ≡ old ++ data_line kind in_file)
+    → (last : List ℕ) × (new ≡ old ++ last) × IsLastAt symbol head BadRow last
+bad_line_at symbol head bad in_file kind old new is file kind_is line =
+    let small : in_file.file ≤ last_day = rw file (omega arith) in (
+      data_line kind in_file,
+      line small,
+      rw is (refl, rw (file, kind_is) (one_file symbol bad)),
+    )

@@ -1,18 +1,22 @@
 -- What the top calls say follows from what was printed and from its causes.
 use Rattle.std.proofs.Common.{◌≡◌, ℕ, ◌≤◌, List, [], ◌++◌, refl, sym, ap, ◌∙◌, subst, inl, inr}
-use Rattle.std.specs.Prelude.{Option, Some, None, ◌⊎◌, codes, IsSome}
+use Rattle.std.specs.Prelude.{Option, Some, None, ◌⊎◌, Result, Ok, Err, IsErr, IsSome, length}
+use Rattle.lean_fixed.specs.declared.resolution.Resolution.{Resolution}
+use Rattle.lean_fixed.specs.declared.time.Window.{Window}
 use Rattle.lean_io.specs.Told.{Files, Rose}
-use Rattle.clock_steps.specs.Runs.{Ran, IsFrontOf}
-use Rattle.lean_top.specs.declared.head.Head.TheVariants.{Faulted}
+use Rattle.exchange_hours.specs.Entries.{Entries}
+use Rattle.clock_steps.specs.Runs.{Ran}
 use Rattle.lean_top.specs.declared.status.Status.{Status}
 use Rattle.lean_top.specs.declared.status.Status.TheVariants.{Done, Usage, Algorithm, BadRow, ReadFault, WriteFault, NoMemory, Limit}
-use Rattle.lean_top.specs.Command.{command}
-use Rattle.lean_top.specs.DailyTape.{Security, TapeRow, Refusal, securities, tape, tape_text, last_line, tape_report_of}
-use Rattle.lean_top.specs.Ending.{Seen, IsStop, Meets, IsComplete, ComesExactly, AreRefused, HasBadRow, IsWholeDays, HasRun}
-use Rattle.lean_top.specs.Endings.{IsWhole}
-use Rattle.lean_top.specs.Outcome.{HasTaped, HasUsage, HasStatusCause, NamesNoUsage}
+use Rattle.lean_top.specs.Command.{Asked, DailyTape, SessionTape, command}
+use Rattle.lean_top.specs.declared.head.Head.TheVariants.{Faulted}
+use Rattle.lean_top.specs.DailyTape.{Refusal, securities, tape, tape_text, last_line}
+use Rattle.lean_top.specs.Ending.{Seen, IsStop, Meets, IsComplete, ComesExactly, RefusesHours, StopsSession, HasBadRow, PrintsWholeSteps, HasRun}
+use Rattle.lean_top.specs.HoursRead.{hours_file}
+use Rattle.lean_top.specs.Outcome.{HasReported, HasTaped, HasUsage, HasStatusCause, NamesNoUsage}
+use Rattle.lean_top.specs.SessionTape.{SessionBar, SessionRefusal, session_sources, session, session_last}
 use Rattle.report_pages.specs.Printed.{IsTaken, IsFront}
-use Rattle.lean_top.specs.Report.{report, report_of}
+use Rattle.lean_top.specs.Report.{report, report_of, session_with, AreWholeSteps}
 use Rattle.lean_top.proofs.Reporting.{rows_at_stop, text_behind}
 
 -- the sink took the whole report and the status is the report's, or it took a front of it and the status is a stop
@@ -20,41 +24,88 @@ abbrev pub Delivers : List ℕ × Status → Option (List ℕ) → Option (List 
 Delivers want before after old new status =
     ((status ≡ want.1) × IsTaken before after want.0) ⊎ (IsStop old new status × IsFront before after want.0)
 
+-- the last line of a tape names a malformed line exactly where one stops it, and never the hours file
+bad_last : (rows : ℕ) (stop : Option Refusal) → (last_line rows stop).1 ≡ BadRow → IsSome stop
+bad_last rows (Some refusal) e = refl
+bad_last rows None e = cc
+
+last_bad : (rows : ℕ) (stop : Option Refusal) → IsSome stop → (last_line rows stop).1 ≡ BadRow
+last_bad rows (Some refusal) some = refl
+last_bad rows None some = cc
+
+no_hours : (rows : ℕ) (stop : Option Refusal) → (last_line rows stop).1 ≡ Algorithm → ⊥
+no_hours rows (Some refusal) e = cc
+no_hours rows None e = cc
+
+module _ (resolution : Resolution) where
+  bad_session : (rows : ℕ) (stop : Option SessionRefusal) → (session_last resolution rows stop).1 ≡ BadRow → IsSome stop
+  bad_session rows (Some refusal) e = refl
+  bad_session rows None e = cc
+
+  session_bad : (rows : ℕ) (stop : Option SessionRefusal) → IsSome stop → (session_last resolution rows stop).1 ≡ BadRow
+  session_bad rows (Some refusal) some = refl
+  session_bad rows None some = cc
+
+  session_no_hours : (rows : ℕ) (stop : Option SessionRefusal) → (session_last resolution rows stop).1 ≡ Algorithm → ⊥
+  session_no_hours rows (Some refusal) e = cc
+  session_no_hours rows None e = cc
+
+module _ (files : Files) (resolution : Resolution) (window : Window) (symbols : List (List ℕ)) where
+  abbrev whole : Entries → Ran (Unit {0}) SessionBar SessionRefusal
+  whole hours = session (session_sources files hours resolution window symbols) window
+
+  session_refuses : (hours : Result Entries (List ℕ)) → (session_with files resolution window symbols hours).1 ≡ Algorithm → IsErr hours
+  session_refuses (Err word) e = refl
+  session_refuses (Ok hours) e = absurd (session_no_hours resolution (length (whole hours).lines) (whole hours).stop e)
+
+  refuses_session : (hours : Result Entries (List ℕ)) → IsErr hours → (session_with files resolution window symbols hours).1 ≡ Algorithm
+  refuses_session (Err word) e = refl
+  refuses_session (Ok hours) e = cc
+
+  session_stops : (hours : Result Entries (List ℕ)) → (session_with files resolution window symbols hours).1 ≡ BadRow → StopsSession files resolution window symbols hours
+  session_stops (Err word) e = cc
+  session_stops (Ok hours) e = bad_session resolution (length (whole hours).lines) (whole hours).stop e
+
+  stops_session : (hours : Result Entries (List ℕ)) → StopsSession files resolution window symbols hours → (session_with files resolution window symbols hours).1 ≡ BadRow
+  stops_session (Err word) e = absurd e
+  stops_session (Ok hours) e = session_bad resolution (length (whole hours).lines) (whole hours).stop e
+
+module _ (files : Files) where
+  report_refuses : (asked : Option Asked) → (report_of files asked).1 ≡ Algorithm → RefusesHours files asked
+  report_refuses None e = cc
+  report_refuses (Some (DailyTape symbols)) e = no_hours _ (tape (securities files symbols)).stop e
+  report_refuses (Some (SessionTape resolution window symbols)) e = session_refuses files resolution window symbols (hours_file files) e
+
+  refuses_report : (asked : Option Asked) → RefusesHours files asked → (report_of files asked).1 ≡ Algorithm
+  refuses_report None e = absurd e
+  refuses_report (Some (DailyTape symbols)) e = absurd e
+  refuses_report (Some (SessionTape resolution window symbols)) e = refuses_session files resolution window symbols (hours_file files) e
+
+  report_stops : (asked : Option Asked) → (report_of files asked).1 ≡ BadRow → HasBadRow files asked
+  report_stops None e = cc
+  report_stops (Some (DailyTape symbols)) e = bad_last _ (tape (securities files symbols)).stop e
+  report_stops (Some (SessionTape resolution window symbols)) e = session_stops files resolution window symbols (hours_file files) e
+
+  stops_report : (asked : Option Asked) → HasBadRow files asked → (report_of files asked).1 ≡ BadRow
+  stops_report None e = absurd e
+  stops_report (Some (DailyTape symbols)) e = last_bad _ (tape (securities files symbols)).stop e
+  stops_report (Some (SessionTape resolution window symbols)) e = stops_session files resolution window symbols (hours_file files) e
+
 module _ (old new : Seen) where
   abbrev pub Caused : Status → Type 0
   Caused status = HasStatusCause old.folder new.folder old.sink new.sink status
 
-  usage_delivers : (before after : Option (List ℕ)) (status : Status) → HasUsage before after status → Caused status → Delivers (codes "usage\n", Usage) before after old new status
-  usage_delivers before after Usage has cause = inl (refl, has)
-  usage_delivers before after NoMemory has cause = inr (tt, has)
-  usage_delivers before after WriteFault has cause = inr (cause, has)
-  usage_delivers before after Done has cause = absurd has
-  usage_delivers before after Algorithm has cause = absurd has
-  usage_delivers before after BadRow has cause = absurd has
-  usage_delivers before after ReadFault has cause = absurd has
-  usage_delivers before after Limit has cause = absurd has
-
-  -- the lines of whole days are a front of the report
-  whole_front : (all : List Security) (rows : List TapeRow) (before after : Option (List ℕ)) → IsWhole all rows → IsTaken before after (tape_text rows) → IsFront before after (tape_report_of (tape all)).0
-  whole_front all rows before after whole taken =
-      let behind = text_behind {H = ℕ} all [] rows (rows_at_stop {H = ℕ} all [] rows [] Faulted whole) in
-      record { written = tape_text rows; left = behind.0; taken = taken; whole = behind.1 }
-
-  tape_delivers : (all : List Security) (before after : Option (List ℕ)) (status : Status) → HasTaped all before after status → Caused status → Delivers (tape_report_of (tape all)) before after old new status
-  tape_delivers all before after Done has cause = inl has
-  tape_delivers all before after BadRow has cause = inl has
-  tape_delivers all before after ReadFault (rows, whole, taken) cause = inr (cause, whole_front all rows before after whole taken)
-  tape_delivers all before after NoMemory has cause = inr (tt, has)
-  tape_delivers all before after WriteFault has cause = inr (cause, has)
-  tape_delivers all before after Usage has cause = absurd has
-  tape_delivers all before after Algorithm has cause = absurd has
-  tape_delivers all before after Limit has cause = absurd has
-
-  report_delivers : (files : Files) (found : Option (List (List ℕ))) (before after : Option (List ℕ)) (status : Status)
-      → ((symbols : List (List ℕ)) → found ≡ Some symbols → HasTaped (securities files symbols) before after status)
-      → (found ≡ None → HasUsage before after status) → Caused status → Delivers (report_of files found) before after old new status
-  report_delivers files None before after status taped refused cause = usage_delivers before after status (refused refl) cause
-  report_delivers files (Some symbols) before after status taped refused cause = tape_delivers (securities files symbols) before after status (taped symbols refl) cause
+  delivers_from : (want : List ℕ × Status) (IsSteps : List ℕ → Type 0) (before after : Option (List ℕ)) (status : Status)
+      → HasReported want IsSteps before after status → Caused status → Delivers want before after old new status
+  delivers_from want IsSteps before after NoMemory has cause = inr (tt, has)
+  delivers_from want IsSteps before after WriteFault has cause = inr (cause, has)
+  delivers_from want IsSteps before after ReadFault (bytes, steps, front, taken) cause =
+      inr (cause, record { written = bytes; left = front.rest; taken = taken; whole = front.is })
+  delivers_from want IsSteps before after Done has cause = inl has
+  delivers_from want IsSteps before after Usage has cause = inl has
+  delivers_from want IsSteps before after Algorithm has cause = inl has
+  delivers_from want IsSteps before after BadRow has cause = inl has
+  delivers_from want IsSteps before after Limit has cause = inl has
 
   meets_from : (want : List ℕ × Status) (before : List ℕ) (status : Status) → Delivers want (Some before) new.told old new status → Meets want before old new status
   meets_from want before status d = elim d [
@@ -107,57 +158,38 @@ module _ (old new : Seen) where
   names_none : (status : Status) → NamesNoUsage status → status ≡ Usage → ⊥
   names_none status names is = (let n : NamesNoUsage Usage = subst NamesNoUsage is names in n)
 
-  only_refused : (found : Option (List (List ℕ))) (status : Status) → ((symbols : List (List ℕ)) → found ≡ Some symbols → NamesNoUsage status) → status ≡ Usage → found ≡ None
+  only_refused : (found : Option Asked) (status : Status) → ((asked : Asked) → found ≡ Some asked → NamesNoUsage status) → status ≡ Usage → found ≡ None
   only_refused None status taken is = refl
-  only_refused (Some symbols) status taken is = absurd (names_none status (taken symbols refl) is)
+  only_refused (Some asked) status taken is = absurd (names_none status (taken asked refl) is)
 
-  -- the last line names a malformed line exactly where one stops the tape
-  bad_last : (rows : ℕ) (stop : Option Refusal) → (last_line rows stop).1 ≡ BadRow → IsSome stop
-  bad_last rows (Some refusal) e = refl
-  bad_last rows None e = cc
-
-  last_bad : (rows : ℕ) (stop : Option Refusal) → IsSome stop → (last_line rows stop).1 ≡ BadRow
-  last_bad rows (Some refusal) some = refl
-  last_bad rows None some = cc
-
-  bad_report : (files : Files) (found : Option (List (List ℕ))) → (report_of files found).1 ≡ BadRow
-      → (symbols : List (List ℕ)) × (found ≡ Some symbols) × IsSome (tape (securities files symbols)).stop
-  bad_report files None e = cc
-  bad_report files (Some symbols) e = (symbols, refl, bad_last _ (tape (securities files symbols)).stop e)
-
-  not_bad : (status : Status) → IsStop old new status → status ≡ BadRow → ⊥
-  not_bad status stop is = (let s : IsStop old new BadRow = subst (IsStop old new) is stop in s)
-
-  bad_exactly : (words : List (List ℕ)) (files : Files) (before after : Option (List ℕ)) (status : Status) → Delivers (report files words) before after old new status
-      → ComesExactly (HasBadRow files words) BadRow status
-  bad_exactly words files before after status d = record {
-    only = λ (is : status ≡ BadRow). elim d [
-      | inl whole ↦ bad_report files (command words) (sym whole.0 ∙ is)
-      | inr stop ↦ absurd (not_bad status stop.0 is)
+  -- a status of the whole report comes exactly where the report has it
+  exactly : (P : Type 0) (comes : Status) (want : List ℕ × Status) (before after : Option (List ℕ)) (status : Status)
+      → (IsStop old new comes → ⊥) → (want.1 ≡ comes → P) → (P → want.1 ≡ comes) → Delivers want before after old new status → ComesExactly P comes status
+  exactly P comes want before after status no_stop from to d = record {
+    only = λ (is : status ≡ comes). elim d [
+      | inl whole ↦ from (sym whole.0 ∙ is)
+      | inr stop ↦ absurd (no_stop (subst (IsStop old new) is stop.0))
     ];
-    always = λ (bad : HasBadRow files words). elim d [
-      | inl whole ↦ inl (whole.0 ∙ ap (λ found. (report_of files found).1) bad.1 ∙ last_bad _ (tape (securities files bad.0)).stop bad.2)
+    always = λ (p : P). elim d [
+      | inl whole ↦ inl (whole.0 ∙ to p)
       | inr stop ↦ inr (stop_yields status stop.0)
     ];
   }
 
-  days_from : (files : Files) (found : Option (List (List ℕ))) (before : List ℕ) (status : Status) → status ≡ ReadFault
-      → ((symbols : List (List ℕ)) → found ≡ Some symbols → HasTaped (securities files symbols) (Some before) new.told status)
-      → (found ≡ None → HasUsage (Some before) new.told status)
-      → (symbols : List (List ℕ)) × (found ≡ Some symbols) × ((rows : List TapeRow) × IsWhole (securities files symbols) rows × (new.told ≡ Some (before ++ tape_text rows)))
-  days_from files None before status is taped refused = absurd (let h : HasUsage (Some before) new.told ReadFault = subst (HasUsage (Some before) new.told) is (refused refl) in h)
-  days_from files (Some symbols) before status is taped refused =
-      let h : HasTaped (securities files symbols) (Some before) new.told ReadFault = subst (HasTaped (securities files symbols) (Some before) new.told) is (taped symbols refl) in
-      (symbols, refl, (h.0, h.1, h.2))
+  steps_from : (want : List ℕ × Status) (IsSteps : List ℕ → Type 0) (before : List ℕ) (status : Status) → status ≡ ReadFault
+      → HasReported want IsSteps (Some before) new.told status → (bytes : List ℕ) × IsSteps bytes × (new.told ≡ Some (before ++ bytes))
+  steps_from want IsSteps before status is has =
+      let h : HasReported want IsSteps (Some before) new.told ReadFault = subst (HasReported want IsSteps (Some before) new.told) is has in
+      (h.0, h.1, h.3)
 
   pub has_run : (words : List (List ℕ)) (status : Status)
-      → ((files : Files) (symbols : List (List ℕ)) → old.files ≡ Some files → command words ≡ Some symbols → HasTaped (securities files symbols) old.told new.told status)
+      → ((files : Files) → old.files ≡ Some files → HasReported (report files words) (AreWholeSteps files (command words)) old.told new.told status)
       → (command words ≡ None → HasUsage old.told new.told status)
-      → ((symbols : List (List ℕ)) → command words ≡ Some symbols → NamesNoUsage status)
+      → ((asked : Asked) → command words ≡ Some asked → NamesNoUsage status)
       → Caused status → new.files ≡ old.files → old.folder ≤ new.folder → old.sink ≤ new.sink → HasRun words old new status
-  has_run words status taped refused taken cause kept folder sink =
+  has_run words status reported refused taken cause kept folder sink =
       let delivers : (files : Files) → old.files ≡ Some files → Delivers (report files words) old.told new.told old new status
-      = λ files told. report_delivers files (command words) old.told new.told status (λ symbols is. taped files symbols told is) refused cause in
+      = λ files told. delivers_from (report files words) (AreWholeSteps files (command words)) old.told new.told status (reported files told) cause in
       let delivers_to : (files : Files) (before : List ℕ) → old.files ≡ Some files → old.told ≡ Some before → Delivers (report files words) (Some before) new.told old new status
       = λ files before told is. subst (λ t. Delivers (report files words) t new.told old new status) is (delivers files told) in
       record {
@@ -167,14 +199,37 @@ module _ (old new : Seen) where
           only = λ is. only_refused (command words) status taken is;
           always = λ none. usage_comes old.told new.told status (refused none);
         };
-        bad_row = λ files told. bad_exactly words files old.told new.told status (delivers files told);
+        algorithm = λ files told. exactly (RefusesHours files (command words)) Algorithm (report files words) old.told new.told status
+            (λ stop. stop) (report_refuses files (command words)) (refuses_report files (command words)) (delivers files told);
+        bad_row = λ files told. exactly (HasBadRow files (command words)) BadRow (report files words) old.told new.told status
+            (λ stop. stop) (report_stops files (command words)) (stops_report files (command words)) (delivers files told);
         read_fault = λ is. (let c : Caused ReadFault = subst Caused is cause in c);
         write_fault = λ is. (let c : Caused WriteFault = subst Caused is cause in c);
-        whole_days = λ is files before told at.
-            days_from files (command words) before status is
-            (λ symbols found. subst (λ t. HasTaped (securities files symbols) t new.told status) at (taped files symbols told found))
-            (λ none. subst (λ t. HasUsage t new.told status) at (refused none));
+        whole_steps = λ is files before told at.
+            steps_from (report files words) (AreWholeSteps files (command words)) before status is
+            (subst (λ t. HasReported (report files words) (AreWholeSteps files (command words)) t new.told status) at (reported files told));
         kept = kept;
         folder_grows = folder;
         sink_grows = sink;
       }
+
+module _ (files : Files) where
+  daily_reported : (symbols : List (List ℕ)) (before after : Option (List ℕ)) (status : Status) → HasTaped (securities files symbols) before after status
+      → HasReported (report_of files (Some (DailyTape symbols))) (AreWholeSteps files (Some (DailyTape symbols))) before after status
+  daily_reported symbols before after Done has = has
+  daily_reported symbols before after BadRow has = has
+  daily_reported symbols before after ReadFault (rows, whole, taken) =
+      let all = securities files symbols in
+      let behind = text_behind {H = ℕ} all [] rows (rows_at_stop {H = ℕ} all [] rows [] Faulted whole) in
+      (tape_text rows, (rows, whole, refl), record { rest = behind.0; is = behind.1 }, taken)
+  daily_reported symbols before after NoMemory has = has
+  daily_reported symbols before after WriteFault has = has
+  daily_reported symbols before after Usage has = absurd has
+  daily_reported symbols before after Algorithm has = absurd has
+  daily_reported symbols before after Limit has = absurd has
+
+  pub daily_reported_by : (asked : Asked) (symbols items : List (List ℕ)) (before after : Option (List ℕ)) (status : Status)
+      → asked ≡ DailyTape symbols → items ≡ symbols → HasTaped (securities files items) before after status
+      → HasReported (report_of files (Some asked)) (AreWholeSteps files (Some asked)) before after status
+  daily_reported_by asked symbols items before after status is same has =
+      rw is (daily_reported symbols before after status (subst (λ l. HasTaped (securities files l) before after status) same has))

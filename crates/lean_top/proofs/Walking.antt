@@ -13,7 +13,8 @@ use Rattle.lean_top.specs.declared.head.Head.{Head}
 use Rattle.lean_top.specs.declared.head.Head.TheVariants.{Row, Bad, Faulted, End}
 use Rattle.lean_top.specs.declared.source.Source.{Source}
 use Rattle.lean_top.specs.DailyTape.{Security, TapeRow, Refusal, named, refusal, step_of, rows_at, due, tape_step, tape_steps, tape, tape_line, tape_text}
-use Rattle.lean_top.specs.Endings.{IsWhole, EndsAt, EndsSo}
+use Rattle.lean_top.specs.Whole.{IsWhole}
+use Rattle.lean_top.specs.Endings.{EndsAt, EndsSo}
 use Rattle.lean_top.specs.Head.{StandsPast}
 use Rattle.report_pages.specs.Printed.{IsPrinted, IsFront}
 use Rattle.lean_top.specs.Source.{Follows}

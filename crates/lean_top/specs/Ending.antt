@@ -1,13 +1,17 @@
 -- How a command ends: with the whole report, or cut short for a named cause.
-use Rattle.std.specs.Prelude.{◌≡◌, ℕ, ◌≤◌, ◌⊎◌, List, ◌++◌, Option, Some, None, IsSome}
+use Rattle.std.specs.Prelude.{◌≡◌, ℕ, ◌≤◌, ◌⊎◌, List, ◌++◌, Option, Some, None, IsSome, Result, Ok, Err, IsErr}
+use Rattle.lean_fixed.specs.declared.resolution.Resolution.{Resolution}
+use Rattle.lean_fixed.specs.declared.time.Window.{Window}
 use Rattle.lean_io.specs.Told.{Files, Rose}
+use Rattle.exchange_hours.specs.Entries.{Entries}
 use Rattle.clock_steps.specs.Runs.{IsFrontOf}
 use Rattle.lean_top.specs.declared.status.Status.{Status}
-use Rattle.lean_top.specs.declared.status.Status.TheVariants.{Usage, BadRow, ReadFault, WriteFault, NoMemory}
-use Rattle.lean_top.specs.Command.{command}
-use Rattle.lean_top.specs.DailyTape.{TapeRow, securities, tape, tape_text}
-use Rattle.lean_top.specs.Endings.{IsWhole}
-use Rattle.lean_top.specs.Report.{report}
+use Rattle.lean_top.specs.declared.status.Status.TheVariants.{Usage, Algorithm, BadRow, ReadFault, WriteFault, NoMemory}
+use Rattle.lean_top.specs.Command.{Asked, DailyTape, SessionTape, command}
+use Rattle.lean_top.specs.DailyTape.{securities, tape}
+use Rattle.lean_top.specs.HoursRead.{hours_file}
+use Rattle.lean_top.specs.SessionTape.{session_sources, session}
+use Rattle.lean_top.specs.Report.{report, AreWholeSteps}
 
 -- What is seen of a folder and a sink at one time: the files, where the folder tells them, the bytes, where the sink tells
 -- them, and both counts of faults.
@@ -47,15 +51,27 @@ pub record ComesExactly (P : Type 0) (status result : Status) : Type 0 where
 abbrev pub AreRefused : List (List ℕ) → Type 0
 AreRefused words = command words ≡ None
 
--- the words are taken, and a malformed line stops their tape
-abbrev pub HasBadRow : Files → List (List ℕ) → Type 0
-HasBadRow files words = (symbols : List (List ℕ)) × (command words ≡ Some symbols) × IsSome (tape (securities files symbols)).stop
+-- the words ask for a session tape, and the hours file is missing, too large or refused
+abbrev pub RefusesHours : Files → Option Asked → Type 0
+RefusesHours files None = ⊥
+RefusesHours files (Some (DailyTape symbols)) = ⊥
+RefusesHours files (Some (SessionTape resolution window symbols)) = IsErr (hours_file files)
 
--- what was printed of the tape of the words is the lines of whole days, up to some one, or nothing
-abbrev pub IsWholeDays : Files → List (List ℕ) → List ℕ → Option (List ℕ) → Type 0
-IsWholeDays files words before told =
-    (symbols : List (List ℕ)) × (command words ≡ Some symbols)
-    × ((rows : List TapeRow) × IsWhole (securities files symbols) rows × (told ≡ Some (before ++ tape_text rows)))
+-- a malformed line stops the session tape, where its hours are read
+abbrev pub StopsSession : Files → Resolution → Window → List (List ℕ) → Result Entries (List ℕ) → Type 0
+StopsSession files resolution window symbols (Err word) = ⊥
+StopsSession files resolution window symbols (Ok hours) =
+    IsSome (session (session_sources files hours resolution window symbols) window).stop
+
+-- the words ask for a tape, and a malformed line stops it
+abbrev pub HasBadRow : Files → Option Asked → Type 0
+HasBadRow files None = ⊥
+HasBadRow files (Some (DailyTape symbols)) = IsSome (tape (securities files symbols)).stop
+HasBadRow files (Some (SessionTape resolution window symbols)) = StopsSession files resolution window symbols (hours_file files)
+
+-- what was printed is the lines of whole days or moments, up to some one, or nothing
+abbrev pub PrintsWholeSteps : Files → List (List ℕ) → List ℕ → Option (List ℕ) → Type 0
+PrintsWholeSteps files words before told = (bytes : List ℕ) × AreWholeSteps files (command words) bytes × (told ≡ Some (before ++ bytes))
 
 -- What a command line has done, from what was seen before it to what is seen after it.
 pub record HasRun (words : List (List ℕ)) (old new : Seen) (status : Status) : Type 0 where
@@ -67,12 +83,13 @@ pub record HasRun (words : List (List ℕ)) (old new : Seen) (status : Status) :
       → ¬ Rose old.folder new.folder → ¬ Rose old.sink new.sink → IsComplete (report files words) before new.told status
   -- the causes of the statuses, whatever the folder and the sink tell
   pub usage : ComesExactly (AreRefused words) Usage status
-  pub bad_row : (files : Files) → old.files ≡ Some files → ComesExactly (HasBadRow files words) BadRow status
+  pub algorithm : (files : Files) → old.files ≡ Some files → ComesExactly (RefusesHours files (command words)) Algorithm status
+  pub bad_row : (files : Files) → old.files ≡ Some files → ComesExactly (HasBadRow files (command words)) BadRow status
   pub read_fault : status ≡ ReadFault → Rose old.folder new.folder
   pub write_fault : status ≡ WriteFault → Rose old.sink new.sink
-  -- a failed read stops the tape where its row is needed, behind the lines of whole days
-  pub whole_days : status ≡ ReadFault → (files : Files) (before : List ℕ) → old.files ≡ Some files → old.told ≡ Some before
-      → IsWholeDays files words before new.told
+  -- a failed read stops a tape where its row is needed, behind the lines of whole days or moments
+  pub whole_steps : status ≡ ReadFault → (files : Files) (before : List ℕ) → old.files ≡ Some files → old.told ≡ Some before
+      → PrintsWholeSteps files words before new.told
   -- what the folder tells stays, and no count falls
   pub kept : new.files ≡ old.files
   pub folder_grows : old.folder ≤ new.folder

@@ -1,6 +1,5 @@
 -- How the rows of a tape end.
-use Rattle.std.specs.Prelude.{◌≡◌, ℕ, ◌+◌, ◌≤◌, ◌⊎◌, List, [], ◌∷◌, ◌++◌, length, Option, Some, None}
-use Rattle.lean_fixed.specs.Calendar.{last_day}
+use Rattle.std.specs.Prelude.{◌≡◌, ℕ, ◌⊎◌, List, [], ◌∷◌, ◌++◌, length, Option, Some, None}
 use Rattle.lean_top.specs.declared.daily_tape.Ending.{Ending}
 use Rattle.lean_top.specs.declared.daily_tape.Ending.TheVariants.{Whole, Stopped}
 use Rattle.lean_top.specs.declared.head.Head.{Head}
@@ -10,16 +9,11 @@ use Rattle.lean_io.specs.Told.{Rose}
 use Rattle.line_source.specs.Reader.{hand_of}
 use Rattle.lean_top.specs.declared.status.Status.{Status}
 use Rattle.lean_top.specs.declared.status.Status.TheVariants.{Done, BadRow, ReadFault}
-use Rattle.lean_top.specs.DailyTape.{Security, TapeRow, refusal, tape, tape_steps, tape_text, refusal_line, tape_report_of}
+use Rattle.lean_top.specs.Whole.{IsWhole}
+use Rattle.lean_top.specs.DailyTape.{Security, TapeRow, refusal, tape, tape_text, refusal_line, tape_report_of}
 use Rattle.report_pages.specs.Lines.{end_line}
 use Rattle.report_pages.specs.Printed.{IsPrinted, IsTaken, IsFront}
 use Rattle.lean_top.specs.Steps.{IsFirstStop}
-
--- the rows of whole steps: of the first so many
-pub record IsWhole (all : List Security) (rows : List TapeRow) : Type 0 where
-  pub count : ℕ
-  pub small : count ≤ last_day + 2
-  pub is : rows ≡ (tape_steps all count).lines
 
 -- What was printed before the head that ends the tape: all rows of it, where the head is a malformed line, and those of
 -- whole steps, where it is a failed read.

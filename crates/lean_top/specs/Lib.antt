@@ -1,12 +1,17 @@
 pub mod Entry
 pub mod Status
 pub mod Command
+pub mod Asked
 pub mod DailyFile
 pub mod DailyTape
 pub mod Head
 pub mod Source
 pub mod Steps
+pub mod Whole
 pub mod Endings
+pub mod HoursRead
+pub mod HoursGiven
+pub mod SessionTape
 pub mod Report
 pub mod Ending
 pub mod Outcome

@@ -1,6 +1,7 @@
 -- What the parts of a command have printed, and why they ended.
 use Rattle.std.specs.Prelude.{◌≡◌, ℕ, List, Option, Some, codes}
 use Rattle.lean_io.specs.Told.{Files, Rose}
+use Rattle.clock_steps.specs.Runs.{IsFrontOf}
 use Rattle.report_pages.specs.declared.pages.Stop.{Stop}
 use Rattle.report_pages.specs.declared.pages.Stop.TheVariants.{NoMemory as OutOfMemory, WriteFault as FailedWrite}
 use Rattle.lean_top.specs.declared.status.Status.{Status}
@@ -22,6 +23,15 @@ HasTaped all before after Usage = ⊥
 HasTaped all before after Algorithm = ⊥
 HasTaped all before after Limit = ⊥
 HasTaped all before after status = IsTapeReport all before after status
+
+-- What the sink took of a report, by the status: all of it; a front of it where memory or a write failed; and where a read
+-- failed, some whole steps of it.
+abbrev pub HasReported : List ℕ × Status → (List ℕ → Type 0) → Option (List ℕ) → Option (List ℕ) → Status → Type 0
+HasReported want IsSteps before after NoMemory = IsFront before after want.0
+HasReported want IsSteps before after WriteFault = IsFront before after want.0
+HasReported want IsSteps before after ReadFault =
+    (bytes : List ℕ) × IsSteps bytes × IsFrontOf bytes want.0 × IsTaken before after bytes
+HasReported want IsSteps before after status = (status ≡ want.1) × IsTaken before after want.0
 
 -- what it took of the line `usage`
 abbrev pub HasUsage : Option (List ℕ) → Option (List ℕ) → Status → Type 0

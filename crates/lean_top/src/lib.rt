@@ -6,8 +6,10 @@
 mod daily_row;
 mod daily_tape;
 mod head;
+mod hours;
 mod path;
 mod report;
+mod session;
 mod source;
 mod sources;
 mod status;

@@ -2,18 +2,21 @@
 ghost use Rattle.std.specs.Prelude.{◌≡◌, ◌≤◌, List, ℕ, Some, None, map, length, string_bytes};
 ghost use Rattle.std.specs.List.{AllByRecursion, AllZip};
 ghost use Rattle.lean_io.specs.Told.{Files, Rose};
-ghost use Rattle.lean_top.specs.Command.{command};
+ghost use Rattle.lean_top.specs.Asked.{asked_by, AsksFew};
+ghost use Rattle.lean_top.specs.Command.{Asked, command};
 ghost use Rattle.lean_top.specs.DailyTape.{Security, securities};
 ghost use Rattle.lean_top.specs.Endings.{HasFaulted};
-ghost use Rattle.lean_top.specs.Outcome.{stop_status, HasTaped, HasUsage, HasStatusCause, HasTapeCause, NamesNoUsage};
+ghost use Rattle.lean_top.specs.Outcome.{stop_status, HasTaped, HasReported, HasUsage, HasStatusCause, HasTapeCause, NamesNoUsage};
+ghost use Rattle.lean_top.specs.Report.{report, report_of, AreWholeSteps};
 ghost use Rattle.lean_top.specs.Source.{IsSound, Follows};
 ghost use Rattle.lean_top.specs.Steps.{AllPast};
 
+use crate::session::session_tape;
 use crate::source::Source;
 use crate::sources::{give_back, open_sources};
 use crate::status::Status;
 use crate::tape::print_tape;
-use crate::words::read_words;
+use crate::words::{Command, read_words};
 use lean_fixed::{NoMemory, Symbol};
 use lean_io::{Folder, Hand, Sink, WriteFault, write_whole};
 use report_pages::Stop;
@@ -26,13 +29,13 @@ pub fn run<F: Folder, S: Sink>(
     folder: &mut F,
     out: &mut S,
 ) -> Status
-    ensures taped { (f : Files) (symbols : List (List ℕ)) → F.files folder.old ≡ Some f
-        → command (map string_bytes words.now) ≡ Some symbols
-        → HasTaped (securities f symbols) (S.told out.old) (S.told out.new) result }
+    ensures reported { (f : Files) → F.files folder.old ≡ Some f
+        → HasReported (report f (map string_bytes words.now)) (AreWholeSteps f (command (map string_bytes words.now)))
+        (S.told out.old) (S.told out.new) result }
     ensures refused { command (map string_bytes words.now) ≡ None
         → HasUsage (S.told out.old) (S.told out.new) result }
-    ensures taken { (symbols : List (List ℕ))
-        → command (map string_bytes words.now) ≡ Some symbols → NamesNoUsage result }
+    ensures taken { (asked : Asked)
+        → command (map string_bytes words.now) ≡ Some asked → NamesNoUsage result }
     ensures cause { HasStatusCause (F.faults folder.old) (F.faults folder.new)
         (S.faults out.old) (S.faults out.new) result }
     ensures kept { F.files folder.new ≡ F.files folder.old }
@@ -40,9 +43,35 @@ pub fn run<F: Folder, S: Sink>(
     ensures sink_grows { S.faults out.old ≤ S.faults out.new }
 {
     match read_words(alloc, words) {
-        Ok(Some(symbols)) => daily_tape(alloc, &symbols, folder, out),
+        Ok(Some(command)) => run_command(alloc, &command, folder, out),
         Ok(None) => print_usage(out),
         Err(NoMemory) => Status::NoMemory,
+    }
+}
+
+// Runs what the words ask for.
+fn run_command<F: Folder, S: Sink>(
+    alloc: Global,
+    command: &Command,
+    folder: &mut F,
+    out: &mut S,
+) -> Status
+    requires { AsksFew command.now }
+    ensures reported { (f : Files) → F.files folder.old ≡ Some f
+        → HasReported (report_of f (Some (asked_by command.now))) (AreWholeSteps f (Some (asked_by command.now)))
+        (S.told out.old) (S.told out.new) result }
+    ensures taken { NamesNoUsage result }
+    ensures cause { HasStatusCause (F.faults folder.old) (F.faults folder.new)
+        (S.faults out.old) (S.faults out.new) result }
+    ensures kept { F.files folder.new ≡ F.files folder.old }
+    ensures folder_grows { F.faults folder.old ≤ F.faults folder.new }
+    ensures sink_grows { S.faults out.old ≤ S.faults out.new }
+{
+    match command {
+        Command::DailyTape(symbols) => daily_tape(alloc, symbols, folder, out),
+        Command::SessionTape(resolution, window, symbols) => {
+            session_tape(alloc, *resolution, *window, symbols, folder, out)
+        }
     }
 }
 

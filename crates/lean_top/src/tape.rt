@@ -14,7 +14,7 @@ use crate::source::Source;
 use crate::status::Status;
 use lean_fixed::{NoMemory, Resolution, Symbol};
 use lean_io::{Hand, Sink};
-use lean_items::FeedKind;
+use lean_items::{Bad, FeedKind};
 use report_pages::{PAGE, Stop, append_end, append_refusal, flush};
 use std::alloc::Global;
 
@@ -84,12 +84,23 @@ fn append_stop<H: Hand>(
 {
     match source.head {
         Head::Bad(bad) => {
-            append_refusal(alloc, daily(source.symbol), &bad, page)?;
+            append_refusal(alloc, daily(source.symbol), &in_only_file(&bad), page)?;
             Ok(Status::BadRow)
         }
         Head::Faulted => Ok(Status::ReadFault),
         Head::Row(_) => unreachable!(),
         Head::End => unreachable!(),
+    }
+}
+
+// A malformed line of the only file of a security.
+fn in_only_file(bad: &Bad) -> Bad
+    ensures { result ≡ record bad.now { file = 0 } }
+{
+    Bad {
+        file: 0,
+        line: bad.line,
+        reason: bad.reason,
     }
 }
 

@@ -1,7 +1,6 @@
 -- How what was printed adds up.
-use Rattle.std.proofs.Common.{◌≡◌, ℕ, ◌≤◌, List, [], ◌++◌, refl, sym, ap, ◌∙◌, take, drop, take-append-drop, append_assoc, append-nil, Option, Some, None, Result, Ok, Err, length, length-append, arith, ◌∷◌, ◌+◌}
-use Rattle.std.specs.Prelude.{option_map, flat_map, OnErr, OnOk}
-use Rattle.std.proofs.lemmas.Grind.{flat_map-append}
+use Rattle.std.proofs.Common.{◌≡◌, ℕ, ◌≤◌, List, [], ◌++◌, refl, sym, ap, ◌∙◌, take, drop, take-append-drop, append_assoc, append-nil, Option, Some, None, Result, Ok, Err, length}
+use Rattle.std.specs.Prelude.{option_map, OnErr, OnOk}
 use Rattle.report_pages.specs.Printed.{IsTaken, IsPrinted, IsFront}
 
 pub IsTaken-nothing : (told : Option (List ℕ)) → IsTaken told told []

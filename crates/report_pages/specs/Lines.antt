@@ -1,5 +1,5 @@
 -- The lines of a tape. Each ends with an LF, and its parts are joined by one space.
-use Rattle.std.specs.Prelude.{◌≡◌, ℕ, pos, ◌≤ℤ◌, unsigned_abs, List, [], ◌∷◌, ◌++◌, codes, decimal}
+use Rattle.std.specs.Prelude.{ℕ, unsigned_abs, List, [], ◌∷◌, ◌++◌, codes, decimal}
 use Rattle.lean_fixed.specs.Printed.{money_text}
 use Rattle.lean_items.specs.declared.bad.Bad.{Bad}
 use Rattle.lean_items.specs.declared.feed_key.FeedKind.{FeedKind}

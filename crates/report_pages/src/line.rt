@@ -8,8 +8,8 @@ ghost use Rattle.report_pages.specs.Lines.{part, row_line, end_line, data_line};
 use crate::trades::Trades;
 use feed_paths::path_text;
 use itoa::Buffer;
-use lean_fixed::{Moment, NoMemory, Price, Symbol, price_text};
 use lean_fixed::ranges::LAST_DAY;
+use lean_fixed::{Moment, NoMemory, Price, Symbol, price_text};
 use lean_items::{Bad, FeedKey, FeedKind};
 use std::alloc::Global;
 

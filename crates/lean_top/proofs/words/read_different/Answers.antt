@@ -2,7 +2,7 @@
 use Rattle.std.proofs.Common.{◌<◌, length, map, sym, ◌∙◌, string_bytes}
 use Rattle.std.proofs.lemmas.List.{length-map}
 use Rattle.lean_top.proofs.WordLemmas.{no_symbol, stands_twice, differs_too, symbol_too, refused, accepted, text_at, more}
-use Rattle.lean_top.proofs.words.read_symbols.Goals as goal
+use Rattle.lean_top.proofs.words.read_different.Goals as goal
 
 pub returns-in_default : goal.returns-in_default
 returns-in_default c =
