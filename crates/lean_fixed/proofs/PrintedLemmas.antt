@@ -1,5 +1,5 @@
 -- How the texts of money are made of their parts.
-use Rattle.std.proofs.Common.{◌≡◌, ℕ, ◌+◌, ◌/◌, ◌%◌, ◌^◌, ◌<◌, ◌≤◌, List, [], ◌∷◌, ◌++◌, length, drop, length-append, arith, refl, ap, ◌∙◌, false, rules, FitsSigned, w64, ℤ, pos, negsuc, unsigned_abs}
+use Rattle.std.proofs.Common.{◌≡◌, ℕ, ◌+◌, ◌/◌, ◌%◌, ◌^◌, ◌<◌, ◌≤◌, List, [], ◌∷◌, ◌++◌, length, drop, length-append, append_assoc, arith, refl, ap, ◌∙◌, false, rules, FitsSigned, w64, ℤ, pos, negsuc, unsigned_abs}
 use Rattle.std.specs.Int.{w128}
 use lib.Signed.{mag}
 use Rattle.std.proofs.Math.ListN.{set, length-set}
@@ -27,13 +27,20 @@ dollars_text-money units n e = rw (four_digits-last n, e) refl
 set-last : (n : ℕ) (xs rest : List ℕ) (y : ℕ) → n < length xs → drop (n + 1) xs ≡ rest → (drop n (set xs n y) ≡ y ∷ rest) × (length (set xs n y) ≡ length xs)
 set-last n xs rest y small behind = (rw (drop-set xs n y small, behind) refl, length-set xs n y)
 
-pub drop-five_set : (xs : List ℕ) (a b c d e : ℕ) → length xs ≡ 41 → drop 36 (set (set (set (set (set xs 40 e) 39 d) 38 c) 37 b) 36 a) ≡ a ∷ b ∷ c ∷ d ∷ e ∷ []
-drop-five_set xs a b c d e size =
-    let one = set-last 40 xs [] e (omega arith) (drop_all 41 xs (omega arith)) in
-    let two = set-last 39 (set xs 40 e) _ d (omega (arith, one.1)) one.0 in
-    let three = set-last 38 (set (set xs 40 e) 39 d) _ c (omega (arith, one.1, two.1)) two.0 in
-    let four = set-last 37 (set (set (set xs 40 e) 39 d) 38 c) _ b (omega (arith, one.1, two.1, three.1)) three.0 in
-    (set-last 36 (set (set (set (set xs 40 e) 39 d) 38 c) 37 b) _ a (omega (arith, one.1, two.1, three.1, four.1)) four.0).0
+pub drop-five_set : (n : ℕ) (xs : List ℕ) (a b c d e : ℕ) → n + 5 ≤ length xs
+    → (drop n (set (set (set (set (set xs (n + 4) e) (n + 3) d) (n + 2) c) (n + 1) b) n a) ≡ a ∷ b ∷ c ∷ d ∷ e ∷ drop (n + 5) xs)
+    × (length (set (set (set (set (set xs (n + 4) e) (n + 3) d) (n + 2) c) (n + 1) b) n a) ≡ length xs)
+drop-five_set n xs a b c d e size =
+    let four : n + 4 + 1 ≡ n + 5 = omega arith in
+    let three : n + 3 + 1 ≡ n + 4 = omega arith in
+    let two : n + 2 + 1 ≡ n + 3 = omega arith in
+    let one : n + 1 + 1 ≡ n + 2 = omega arith in
+    let fifth = set-last (n + 4) xs (drop (n + 5) xs) e (omega arith) (rw four refl) in
+    let fourth = set-last (n + 3) (set xs (n + 4) e) _ d (omega (arith, fifth.1)) (rw three fifth.0) in
+    let third = set-last (n + 2) (set (set xs (n + 4) e) (n + 3) d) _ c (omega (arith, fifth.1, fourth.1)) (rw two fourth.0) in
+    let second = set-last (n + 1) (set (set (set xs (n + 4) e) (n + 3) d) (n + 2) c) _ b (omega (arith, fifth.1, fourth.1, third.1)) (rw one third.0) in
+    let first = set-last n (set (set (set (set xs (n + 4) e) (n + 3) d) (n + 2) c) (n + 1) b) _ a (omega (arith, fifth.1, fourth.1, third.1, second.1)) second.0 in
+    (first.0, omega (arith, fifth.1, fourth.1, third.1, second.1, first.1))
 
 -- so many whole dollars have at most 35 digits, and without the last one there is one digit less
 pub length-dollars : (dollars : ℕ) → dollars < 10 ^ 35 → length (decimal dollars) ≤ 35
@@ -50,6 +57,33 @@ length-money_text units digits some small wide =
     let dollars = length-decimal-le_wide digits (unsigned_abs units / 10000) some small wide in
     omega (arith, length-append (sign_text (is_negative units)) (decimal (unsigned_abs units / 10000) ++ 46 ∷ four_digits (unsigned_abs units)), length-append (decimal (unsigned_abs units / 10000)) (46 ∷ four_digits (unsigned_abs units)))
 
+-- the text of a price that is written from its end on: the point and four digits, the dollars, and the sign
+joined : (sign dollars places behind : List ℕ) → sign ++ (dollars ++ 46 ∷ (places ++ behind)) ≡ (sign ++ (dollars ++ 46 ∷ places)) ++ behind
+joined sign dollars places behind = simp append_assoc
+
+pub money_of_parts : (units : ℤ) (n : ℕ) (signed digits point behind : List ℕ) → n ≡ unsigned_abs units
+    → signed ≡ sign_text (is_negative units) ++ digits → digits ≡ decimal (n / 10000) ++ point → point ≡ 46 ∷ (four_digits (n % 10000) ++ behind)
+    → signed ≡ money_text units ++ behind
+money_of_parts units n signed digits point behind e s d p =
+    rw (s, d, p) (joined (sign_text (is_negative units)) (decimal (n / 10000)) (four_digits (n % 10000)) behind ∙ ap (λ text. text ++ behind) (dollars_text-money units n e))
+
+pub length-money_of_parts : (units : ℤ) (n start dollars point end : ℕ) → n ≡ unsigned_abs units
+    → start + length (sign_text (is_negative units)) ≡ dollars → dollars + length (decimal (n / 10000)) ≡ point → point + 5 ≡ end
+    → start + length (money_text units) ≡ end
+length-money_of_parts units n start dollars point end e s d p =
+    rw (← dollars_text-money units n e)
+    (omega (arith, s, d, p, length-append (sign_text (is_negative units)) (decimal (n / 10000) ++ 46 ∷ four_digits (n % 10000)), length-append (decimal (n / 10000)) (46 ∷ four_digits (n % 10000))))
+
+unsigned_abs-mag : (units : ℤ) → unsigned_abs units ≤ mag units + 1
+unsigned_abs-mag (pos n) = omega arith
+unsigned_abs-mag (negsuc n) = omega arith
+
+-- the whole dollars of a price
+pub length-price_dollars : (price : ℤ) (n : ℕ) → FitsSigned w64 price → n ≡ unsigned_abs price → length (decimal (n / 10000)) ≤ 15
+length-price_dollars price n fits e =
+    let small = unsigned_abs-mag price in
+    length-decimal-le_wide 15 (n / 10000) (omega arith) (omega (arith, e, fits.sfits)) (omega (arith, e, fits.sfits))
+
 pub length-day_text : (day : ℕ) → length (day_text day) ≡ 8
 unfolding day_text
 length-day_text day = refl
@@ -64,10 +98,6 @@ is_negative-pos units = search rules
 pub money_text-pos : (units : ℕ) → money_text (pos units) ≡ units_text units
 unfolding money_text
 money_text-pos units = rw (is_negative-pos units) refl
-
-unsigned_abs-mag : (units : ℤ) → unsigned_abs units ≤ mag units + 1
-unsigned_abs-mag (pos n) = omega arith
-unsigned_abs-mag (negsuc n) = omega arith
 
 pub length-price_text : (price : ℤ) → FitsSigned w64 price → length (money_text price) ≤ 21
 length-price_text price fits =

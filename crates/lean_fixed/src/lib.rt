@@ -23,5 +23,5 @@ pub use memory::NoMemory;
 pub use money::{Money, Price, Shares, Side};
 pub use resolution::Resolution;
 pub use symbol::Symbol;
-pub use texts::{day_text, moment_text, money_text, price_text};
+pub use texts::{day_text, moment_text, money_text, price_text, write_price};
 pub use time::{Day, Moment, Window};

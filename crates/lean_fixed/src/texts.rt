@@ -11,14 +11,31 @@ use itoa::write_digits;
 // The units in a dollar.
 const UNITS: u64 = 10_000;
 
+// The bytes of the longest text of a price: a sign, 15 digits, a point and four digits.
+const LONGEST_PRICE: usize = 21;
+
 // The bytes of the longest text of money: a sign, 35 digits, a point and four digits.
 const LONGEST: usize = 41;
 
 // Where the point stands in that many bytes.
 const POINT: usize = 36;
 
-/// Appends a price in dollars: `-` where it is negative, the whole dollars, a point and four digits. At `NoMemory` the
-/// vector is as it was.
+/// Writes the text of a price before a place of a buffer, and says where it starts: `-` where it is negative, the whole
+/// dollars, a point and four digits, at most 21 bytes. What stands behind the place stays.
+pub fn write_price(price: Price, buffer: &mut [u8], end: usize) -> usize
+    requires room { 21 ≤ end }
+    requires within { end ≤ length buffer.old }
+    ensures start { result + length (money_text price.0) ≡ end }
+    ensures written { drop result buffer.new ≡ money_text price.0 ++ drop end buffer.old }
+{
+    let units = price.0.unsigned_abs();
+    let point = end - 5;
+    write_places((units % UNITS) as u16, buffer, point);
+    let dollars = write_digits(units / UNITS, buffer, point);
+    write_sign(price.0.is_negative(), buffer, dollars)
+}
+
+/// Appends a price in the same form. At `NoMemory` the vector is as it was.
 pub fn price_text(price: Price, out: &mut Vec<u8>) -> Result<(), NoMemory>
     ensures ok { OnOk result (out.new.items ≡ out.old.items ++ money_text price.0) }
     ensures err { OnErr result (out.new.items ≡ out.old.items) }
@@ -26,13 +43,10 @@ pub fn price_text(price: Price, out: &mut Vec<u8>) -> Result<(), NoMemory>
         (vec_capacity out.old < vec_len out.old + length (money_text price.0)) }
     ensures capacity { vec_capacity out.old ≤ vec_capacity out.new }
 {
-    let units = price.0.unsigned_abs();
-    append_dollars(
-        price.0.is_negative(),
-        (units / UNITS) as u128,
-        (units % UNITS) as u16,
-        out,
-    )
+    let mut text = [0; LONGEST_PRICE];
+    let start = write_price(price, &mut text, LONGEST_PRICE);
+    out.extend_from_slice(&text[start..])?;
+    Ok(())
 }
 
 /// Appends an amount of money in the same form. At `NoMemory` the vector is as it was.
@@ -94,23 +108,25 @@ fn append_dollars(
     ensures capacity { vec_capacity out.old ≤ vec_capacity out.new }
 {
     let mut text = [0; LONGEST];
-    write_places(places, &mut text);
+    write_places(places, &mut text, POINT);
     let dollars = write_dollars(dollars, &mut text);
     let start = write_sign(negative, &mut text, dollars);
     out.extend_from_slice(&text[start..])?;
     Ok(())
 }
 
-// Writes a point and four digits at the end.
-fn write_places(places: u16, text: &mut [u8; LONGEST])
-    ensures { drop 36 text.new ≡ 46 ∷ four_digits places }
+// Writes a point at a place, and four digits behind it.
+fn write_places(places: u16, text: &mut [u8], point: usize)
+    requires { point + 5 ≤ length text.old }
+    ensures size { length text.new ≡ length text.old }
+    ensures written { drop point text.new ≡ 46 ∷ (four_digits places ++ drop (point + 5) text.old) }
 {
     let [thousands, hundreds, tens, ones] = four_digits(places);
-    text[POINT + 4] = ones;
-    text[POINT + 3] = tens;
-    text[POINT + 2] = hundreds;
-    text[POINT + 1] = thousands;
-    text[POINT] = b'.';
+    text[point + 4] = ones;
+    text[point + 3] = tens;
+    text[point + 2] = hundreds;
+    text[point + 1] = thousands;
+    text[point] = b'.';
 }
 
 // Writes the whole dollars before the point, and says where they start. The digits past 64 bits go one at a time.
@@ -131,9 +147,9 @@ fn write_dollars(dollars: u128, text: &mut [u8; LONGEST]) -> usize
 }
 
 // Writes the sign of a negative amount before its first digit, and says where the text starts.
-fn write_sign(negative: bool, text: &mut [u8; LONGEST], digits: usize) -> usize
-    requires { (0 < digits) × (digits ≤ 41) }
-    ensures within { result ≤ digits }
+fn write_sign(negative: bool, text: &mut [u8], digits: usize) -> usize
+    requires { (0 < digits) × (digits ≤ length text.old) }
+    ensures start { result + length (sign_text negative) ≡ digits }
     ensures written { drop result text.new ≡ sign_text negative ++ drop digits text.old }
 {
     if !negative {
