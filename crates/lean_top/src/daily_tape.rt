@@ -110,6 +110,7 @@ fn print_row<H: Hand, S: Sink>(
     ensures cause { IfErr result (HasCause (S.faults out.old) (S.faults out.new)) }
     ensures grows { S.faults out.old ≤ S.faults out.new }
 {
+    day_reads_back();
     append_row(date, &source.symbol, &trades_of(&row.row), page)?;
     source.advance(row);
     turn_page(page, out)

@@ -1,4 +1,4 @@
--- A line that is appended part by part.
+-- Lines that are made part by part.
 use Rattle.std.proofs.Common.{◌≡◌, ℕ, ◌≤◌, List, [], ◌∷◌, ◌++◌, append_assoc}
 use Rattle.std.specs.Prelude.{decimal, unsigned_abs, codes}
 use Rattle.lean_fixed.specs.Calendar.{last_day}
@@ -10,20 +10,19 @@ use Rattle.feed_paths.specs.Paths.{path_of}
 use Rattle.report_pages.specs.declared.trades.Trades.{Trades}
 use Rattle.report_pages.specs.Lines.{part, row_line, data_line}
 
-joined : (p front name opening high low closing volume : List ℕ)
-    → p ++ front ++ part name ++ part opening ++ part high ++ part low ++ part closing ++ part volume ++ 10 ∷ []
-    ≡ p ++ (front ++ part name ++ part opening ++ part high ++ part low ++ part closing ++ part volume ++ 10 ∷ [])
-joined p front name opening high low closing volume = simp append_assoc
+-- A line that is written from its end to its front: each part stands before what was written.
+joined : (front name opening high low closing volume last : List ℕ)
+    → front ++ (name ++ (opening ++ (high ++ (low ++ (closing ++ (volume ++ last)))))) ≡ front ++ name ++ opening ++ high ++ low ++ closing ++ volume ++ last
+joined front name opening high low closing volume last = simp append_assoc
 
-pub line_of_parts : (front symbol : List ℕ) (trades : Trades) (p0 p1 p2 p3 p4 p5 p6 p7 p8 : List ℕ) (name volume : List ℕ)
-    → name ≡ symbol → volume ≡ decimal (unsigned_abs trades.volume.0)
-    → p1 ≡ p0 ++ front → p2 ≡ p1 ++ part name → p3 ≡ p2 ++ part (money_text trades.opening.0) → p4 ≡ p3 ++ part (money_text trades.high.0)
-    → p5 ≡ p4 ++ part (money_text trades.low.0) → p6 ≡ p5 ++ part (money_text trades.closing.0) → p7 ≡ p6 ++ part volume → p8 ≡ p7 ++ 10 ∷ []
-    → p8 ≡ p0 ++ row_line front symbol trades
+pub row_of_parts : (front symbol : List ℕ) (trades : Trades) (volume : ℕ) (line l1 l2 l3 l4 l5 l6 l7 : List ℕ) → volume ≡ unsigned_abs trades.volume.0
+    → l1 ≡ 10 ∷ [] → l2 ≡ part (decimal volume) ++ l1 → l3 ≡ part (money_text trades.closing.0) ++ l2 → l4 ≡ part (money_text trades.low.0) ++ l3
+    → l5 ≡ part (money_text trades.high.0) ++ l4 → l6 ≡ part (money_text trades.opening.0) ++ l5 → l7 ≡ part symbol ++ l6 → line ≡ front ++ l7
+    → line ≡ row_line front symbol trades
 unfolding row_line
-line_of_parts front symbol trades p0 p1 p2 p3 p4 p5 p6 p7 p8 name volume n v e1 e2 e3 e4 e5 e6 e7 e8 =
-    rw (e8, e7, e6, e5, e4, e3, e2, e1, n, v)
-    (joined p0 front symbol (money_text trades.opening.0) (money_text trades.high.0) (money_text trades.low.0) (money_text trades.closing.0) (decimal (unsigned_abs trades.volume.0)))
+row_of_parts front symbol trades volume line l1 l2 l3 l4 l5 l6 l7 v e1 e2 e3 e4 e5 e6 e7 e =
+    rw (e, e7, e6, e5, e4, e3, e2, e1, v)
+    (joined front (part symbol) (part (money_text trades.opening.0)) (part (money_text trades.high.0)) (part (money_text trades.low.0)) (part (money_text trades.closing.0)) (part (decimal (unsigned_abs trades.volume.0))) (10 ∷ []))
 
 data_joined : (p named path line number reason : List ℕ) → p ++ named ++ path ++ line ++ number ++ part reason ++ 10 ∷ [] ≡ p ++ (named ++ path ++ line ++ number ++ part reason ++ 10 ∷ [])
 data_joined p named path line number reason = simp append_assoc

@@ -1,5 +1,5 @@
 //! The lines of a tape.
-ghost use Rattle.std.specs.Prelude.{◌≡◌, ℕ, ◌≤◌, ◌≤ℤ◌, ◌++◌, pos, unsigned_abs, OnOk, IfOk, string_bytes};
+ghost use Rattle.std.specs.Prelude.{◌≡◌, ◌+◌, ◌≤◌, ◌≤ℤ◌, ◌++◌, pos, length, drop, decimal, unsigned_abs, OnOk, IfOk, string_bytes};
 ghost use Rattle.lean_fixed.specs.Calendar.{last_day};
 ghost use Rattle.lean_fixed.specs.Printed.{money_text};
 ghost use Rattle.feed_paths.specs.Paths.{path_of};
@@ -7,32 +7,91 @@ ghost use Rattle.report_pages.specs.Lines.{part, row_line, end_line, data_line};
 
 use crate::trades::Trades;
 use feed_paths::path_text;
-use itoa::Buffer;
+use itoa::{Buffer, write_digits};
+use lean_fixed::laws::{price_text_is_short, symbol_is_short};
 use lean_fixed::ranges::LAST_DAY;
-use lean_fixed::{Moment, NoMemory, Price, Symbol, price_text};
+use lean_fixed::{Moment, NoMemory, Price, Symbol, write_price};
 use lean_items::{Bad, FeedKey, FeedKind};
 use std::alloc::Global;
 
-/// Appends the line of a row behind its front, which is a day or a moment. The volume is not negative.
+/// The most bytes of the line of a row: what it begins with, a symbol, four prices, a volume, a space before each, and an LF.
+const LONGEST: usize = 16 + 13 + 4 * 22 + 21 + 1;
+
+/// Appends the line of a row behind its front, which is a day or a moment. The volume is not negative. The line is written
+/// into one array, from its end on.
 pub fn append_row(
     front: &[u8],
     symbol: &Symbol,
     trades: &Trades,
     page: &mut Vec<u8>,
 ) -> Result<(), NoMemory>
-    requires { pos 0 ≤ℤ trades.now.volume.0 }
+    requires front { length front.now ≤ 16 }
+    requires volume { pos 0 ≤ℤ trades.now.volume.0 }
     ensures { OnOk result
         (page.new.items ≡ page.old.items ++ row_line front.now symbol.now trades.now) }
 {
-    page.extend_from_slice(front)?;
-    append_part(symbol.bytes(), page)?;
-    append_price(trades.opening, page)?;
-    append_price(trades.high, page)?;
-    append_price(trades.low, page)?;
-    append_price(trades.closing, page)?;
-    append_part(Buffer::new().format(volume_of(trades)).as_bytes(), page)?;
-    page.push(b'\n')?;
+    let mut line = [0; LONGEST];
+    line[LONGEST - 1] = b'\n';
+    let volume = volume_of(trades);
+    let at = write_volume(volume, &mut line, LONGEST - 1);
+    let at = write_price_part(trades.closing, &mut line, at);
+    let at = write_price_part(trades.low, &mut line, at);
+    let at = write_price_part(trades.high, &mut line, at);
+    let at = write_price_part(trades.opening, &mut line, at);
+    let at = write_symbol(symbol, &mut line, at);
+    let start = write_text(front, &mut line, at);
+    page.extend_from_slice(&line[start..])?;
     Ok(())
+}
+
+// Writes a space and a volume before a place of a line, and says where they start.
+fn write_volume(volume: u64, line: &mut [u8], end: usize) -> usize
+    requires { (21 ≤ end) × (end ≤ length line.old) }
+    ensures start { (result ≤ end) × (end ≤ result + 21) }
+    ensures size { length line.new ≡ length line.old }
+    ensures written { drop result line.new ≡ part (decimal volume) ++ drop end line.old }
+{
+    let digits = write_digits(volume, line, end);
+    line[digits - 1] = b' ';
+    digits - 1
+}
+
+// The same of a price.
+fn write_price_part(price: Price, line: &mut [u8], end: usize) -> usize
+    requires { (22 ≤ end) × (end ≤ length line.old) }
+    ensures start { (result ≤ end) × (end ≤ result + 22) }
+    ensures size { length line.new ≡ length line.old }
+    ensures written { drop result line.new ≡ part (money_text price.0) ++ drop end line.old }
+{
+    price_text_is_short(price);
+    let text = write_price(price, line, end);
+    line[text - 1] = b' ';
+    text - 1
+}
+
+// The same of a symbol.
+fn write_symbol(symbol: &Symbol, line: &mut [u8], end: usize) -> usize
+    requires { (13 ≤ end) × (end ≤ length line.old) }
+    ensures start { (result ≤ end) × (end ≤ result + 13) }
+    ensures size { length line.new ≡ length line.old }
+    ensures written { drop result line.new ≡ part symbol.now ++ drop end line.old }
+{
+    symbol_is_short(*symbol);
+    let text = write_text(symbol.bytes(), line, end);
+    line[text - 1] = b' ';
+    text - 1
+}
+
+// Writes a text before a place of a line, and says where it starts.
+fn write_text(text: &[u8], line: &mut [u8], end: usize) -> usize
+    requires { (length text.now ≤ end) × (end ≤ length line.old) }
+    ensures start { result + length text.now ≡ end }
+    ensures size { length line.new ≡ length line.old }
+    ensures written { drop result line.new ≡ text.now ++ drop end line.old }
+{
+    let start = end - text.len();
+    line[start..end].copy_from_slice(text);
+    start
 }
 
 /// Appends the line that counts the rows.
@@ -91,13 +150,6 @@ fn append_part(text: &[u8], page: &mut Vec<u8>) -> Result<(), NoMemory>
     page.push(b' ')?;
     page.extend_from_slice(text)?;
     Ok(())
-}
-
-fn append_price(price: Price, page: &mut Vec<u8>) -> Result<(), NoMemory>
-    ensures { OnOk result (page.new.items ≡ page.old.items ++ part (money_text price.0)) }
-{
-    page.push(b' ')?;
-    price_text(price, page)
 }
 
 fn volume_of(trades: &Trades) -> u64

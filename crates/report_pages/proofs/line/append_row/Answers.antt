@@ -1,11 +1,23 @@
--- The parts one after another are the line.
-use Rattle.std.proofs.Common.{◌∙◌, ap}
-use Rattle.std.specs.Prelude.{decimal}
-use Rattle.report_pages.proofs.LineTexts.{line_of_parts}
+-- The parts that were written one before another are the line.
+use Rattle.std.proofs.Common.{◌≡◌, ◌++◌, ◌≤◌, ap, ◌∙◌, arith, refl, length}
+use Rattle.std.proofs.lemmas.Slice.{between_to_end}
+use Rattle.report_pages.proofs.LineTexts.{row_of_parts}
 use Rattle.report_pages.proofs.line.append_row.Goals as goal
 
 pub returns : goal.returns
-returns c = line_of_parts c.args.front.now c.args.symbol.now c.args.trades.now _ _ _ _ _ _ _ _ _ _ _
-    c.bytes.ensures.value (c.as_bytes.ensures.value ∙ c.format.ensures.text ∙ ap decimal c.volume_of.ensures)
-    c.in_ok-extend_from_slice.ensures.items c.in_ok-append_part.ensures c.in_ok-append_price.ensures c.in_ok-append_price-2.ensures c.in_ok-append_price-3.ensures
-    c.in_ok-append_price-4.ensures c.in_ok-append_part-2.ensures c.in_ok-push.ensures.items
+returns c =
+    let line = row_of_parts c.args.front.now c.args.symbol.now c.args.trades.now c.volume_of-volume.result _ _ _ _ _ _ _ _
+    c.volume_of-volume.ensures refl c.write_volume-at.ensures.written c.write_price_part-at.ensures.written c.write_price_part-at-2.ensures.written c.write_price_part-at-3.ensures.written
+    c.write_price_part-at-4.ensures.written c.write_symbol-at.ensures.written c.write_text-start.ensures.written in
+    let size : length c.write_text-start.new.line ≤ 139 =
+    omega (
+      arith,
+      c.write_volume-at.ensures.size,
+      c.write_price_part-at.ensures.size,
+      c.write_price_part-at-2.ensures.size,
+      c.write_price_part-at-3.ensures.size,
+      c.write_price_part-at-4.ensures.size,
+      c.write_symbol-at.ensures.size,
+      c.write_text-start.ensures.size,
+    ) in
+    c.in_ok-extend_from_slice.ensures.items ∙ ap (λ text. c.args.page.now.items ++ text) (between_to_end c.write_text-start.new.line c.write_text-start.result 139 size ∙ line)
