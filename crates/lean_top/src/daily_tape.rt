@@ -17,6 +17,7 @@ use crate::head::Head;
 use crate::source::Source;
 use equity_csv::Row;
 use lean_fixed::Day;
+use lean_fixed::laws::day_reads_back;
 use lean_fixed::ranges::{LAST_DAY, MINUTES_PER_DAY};
 use lean_io::{Hand, Sink};
 use report_pages::{Stop, Trades, append_row, turn_page};
