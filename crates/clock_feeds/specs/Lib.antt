@@ -5,3 +5,4 @@ pub mod Bars
 pub mod Feeds
 pub mod Slices
 pub mod Stands
+pub mod Lists
