@@ -6,3 +6,4 @@ pub mod Feeds
 pub mod Slices
 pub mod Stands
 pub mod Lists
+pub mod Worked
