@@ -1,6 +1,6 @@
 -- The entries of the coarse files: their rows end at the 00:00 behind their date, and a file has at most 20,000.
-use Rattle.std.proofs.Common.{◌≡◌, ℕ, zero, suc, ◌+◌, ◌-◌, ◌*◌, ◌<◌, ◌≤◌, ℤ, pos, negsuc, ◌-ℤ◌, ◌<ℤ◌, ◌≤ℤ◌, List, [], ◌∷◌, ◌++◌, Bool, true, false, refl, sym, ap, ◌∙◌, subst, arith, true≢false, map, length}
-use Rattle.std.specs.Prelude.{Option, Some, None, option_map, Result, Ok, Err, cond, nat_lt, if◌then◌else◌, filter_map, flat_map}
+use Rattle.std.proofs.Common.{◌≡◌, ℕ, zero, suc, ◌+◌, ◌-◌, ◌*◌, ◌<◌, ◌≤◌, ℤ, pos, negsuc, ◌-ℤ◌, ◌≤ℤ◌, List, [], ◌∷◌, Bool, true, false, refl, arith, map}
+use Rattle.std.specs.Prelude.{Option, Some, None, option_map, Result, Ok, Err, nat_lt, flat_map}
 use Rattle.std.specs.List.{cons_option, range_with_len}
 use Rattle.std.proofs.lemmas.Bool.Decides.{nat_tests}
 use Rattle.std.proofs.lemmas.Int.{ints}
@@ -13,7 +13,6 @@ use Rattle.lean_io.specs.Told.{Files}
 use Rattle.lean_items.specs.declared.coarse_row.CoarseRow.{CoarseRow}
 use Rattle.lean_items.specs.declared.feed_key.FeedKind.TheVariants.{Coarse}
 use Rattle.lean_items.specs.declared.reason.Reason.{Reason}
-use Rattle.lean_items.specs.declared.reason.Reason.TheVariants.{Long, Many}
 use Rattle.lean_items.specs.Coarse.{IsCoarse}
 use Rattle.line_source.specs.Lines.{FileLine, TextLine, BlankLine, LongLine, ManyLine, lines}
 use Rattle.coarse_csv.specs.Rows.{coarse_row}
@@ -21,10 +20,10 @@ use Rattle.coarse_csv.proofs.RowLemmas.{row-valid}
 use Rattle.exchange_hours.specs.Entries.{Entries}
 use Rattle.feed_paths.specs.Files.{from_1970, count_to, files_of}
 use Rattle.feed_paths.specs.Paths.{path_of}
-use Rattle.clock_feeds.specs.Entries.{Entry, said, entry_of, entries}
-use Rattle.clock_feeds.specs.Raw.{Timed, Raw, timed_says, raw_of, file_entries, counted, first_rows, coarse_said, coarse_text, coarse_entries, coarse_end, coarse_raw}
-use Rattle.clock_feeds.proofs.CutLemmas.{OnEnd, OnSays, Climbs, climbs_append, climbs_lower, good_rows, count_append}
-use Rattle.clock_feeds.proofs.SearchLemmas.{none_some, same_some}
+use Rattle.clock_feeds.specs.Entries.{Entry, said, entries}
+use Rattle.clock_feeds.specs.Raw.{Raw, timed_says, raw_of, file_entries, counted, first_rows, coarse_said, coarse_text, coarse_entries, coarse_end, coarse_raw}
+use Rattle.clock_feeds.proofs.CutLemmas.{OnSays, Climbs, climbs_append, good_rows, count_append}
+use Rattle.clock_feeds.proofs.SearchLemmas.{none_some}
 
 abbrev pub Standing : ℕ → ℕ → Type 0
 Standing a b = a ≤ b

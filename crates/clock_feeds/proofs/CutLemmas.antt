@@ -1,6 +1,6 @@
 -- What is kept of raw entries whose ends rise.
-use Rattle.std.proofs.Common.{◌≡◌, ℕ, zero, suc, ◌+◌, ◌-◌, ◌<◌, ◌≤◌, ℤ, pos, negsuc, ◌<ℤ◌, ◌≤ℤ◌, int_lt, int_le, List, [], ◌∷◌, ◌++◌, Bool, true, false, refl, sym, ap, ◌∙◌, subst, arith, true≢false, map, length, length-append}
-use Rattle.std.specs.Prelude.{Option, Some, None, Result, Ok, Err, cond, ◌&&◌, nat_lt, if◌then◌else◌, filter_map}
+use Rattle.std.proofs.Common.{◌≡◌, ℕ, ◌+◌, ◌-◌, ◌<◌, ◌≤◌, ℤ, pos, negsuc, ◌<ℤ◌, int_lt, int_le, List, [], ◌∷◌, ◌++◌, Bool, true, false, refl, sym, subst, arith, length}
+use Rattle.std.specs.Prelude.{Option, Some, None, Result, Ok, Err, ◌&&◌, nat_lt, if◌then◌else◌, filter_map}
 use Rattle.std.specs.List.{cons_option}
 use Rattle.std.proofs.lemmas.Bool.Decides.{nat_tests}
 use Rattle.std.proofs.lemmas.Bool.{and_parts, and_from}
@@ -16,7 +16,7 @@ use Rattle.equity_csv.specs.Written.{IsRow}
 use Rattle.exchange_hours.specs.Entries.{Entries}
 use Rattle.exchange_hours.specs.Grid.{in_session}
 use Rattle.clock_feeds.specs.Raw.{Timed, Raw, start_of}
-use Rattle.clock_feeds.specs.Kept.{Kept, is_past, cut_at, cut, bar_of, kept_bar_at, kept_bar, kept_bars, kept_coarse_at, kept_coarse_row, kept_coarse}
+use Rattle.clock_feeds.specs.Kept.{Kept, is_past, cut_at, cut, bar_of, kept_bar_at, kept_bar, kept_coarse_at, kept_coarse_row}
 use Rattle.clock_feeds.specs.Bars.{end_of}
 use Rattle.clock_feeds.specs.Stands.{EndBy, Rises}
 use Rattle.clock_feeds.specs.Lists.{IsSound, IsSoundRow, RowsRise}
@@ -134,9 +134,10 @@ end_kept hours start last until after past row (Some end) rest P small within h 
     by true is =
         let above_start : start <ℤ pos end = lt_told start (pos end) (and_parts (int_lt start (pos end)) (in_session hours (start_of row) end) is).0 in
         let low : end ≤ last = not_past last end within in
-        let rest_is = later end end h.3 (λ e up s. up) in
-        ((record { end = refl; after = above_start; until = low; in_range = bar_in_range row end h.2 (omega (arith, low, small)) }, rest_is.0),
-        (above end h.0 above_start, rest_is.1))
+        let rest_is = later end end h.3 (λ e up s. up) in (
+          (record { end = refl; after = above_start; until = low; in_range = bar_in_range row end h.2 (omega (arith, low, small)) }, rest_is.0),
+          (above end h.0 above_start, rest_is.1),
+        )
     by false is = later end past h.3 (λ e up s. above e (omega (arith, h.0, up)) s)
 
 pub bars_kept : (hours : Entries) (start : ℤ) (last until : ℕ) (raw : List (Raw Row)) (after past : ℕ) → last ≤ 121000000 → Climbs Rising IsRow after until raw → Bounds start after past
@@ -179,9 +180,10 @@ row_kept start last until after past row (Some end) rest P small within h above 
     by : (b : Bool) → int_lt start (pos end) ≡ b → KeepsRows start last past (cons_option (if b then Some (end, row) else None) rest)
     by true is =
         let low : end ≤ last = not_past last end within in
-        let rest_is = later end end h.3 (omega arith) in
-        ((record { after = lt_told start (pos end) is; until = low; in_range = row_in_range row end h.2 (omega (arith, low, small)) }, rest_is.0),
-        (omega (arith, h.0, above), rest_is.1))
+        let rest_is = later end end h.3 (omega arith) in (
+          (record { after = lt_told start (pos end) is; until = low; in_range = row_in_range row end h.2 (omega (arith, low, small)) }, rest_is.0),
+          (omega (arith, h.0, above), rest_is.1),
+        )
     by false is = later end past h.3 (omega (arith, h.0, above))
 
 pub rows_kept : (start : ℤ) (last until : ℕ) (raw : List (Raw CoarseRow)) (after past : ℕ) → last ≤ 121000000 → Climbs Standing IsCoarse after until raw → past ≤ after

@@ -1,12 +1,11 @@
 -- What is true of the lists of all feeds.
-use Rattle.std.proofs.Common.{◌≡◌, ℕ, zero, suc, ◌+◌, ◌-◌, ◌*◌, ◌^◌, ◌<◌, ◌≤◌, ℤ, pos, negsuc, ◌<ℤ◌, ◌≤ℤ◌, int_le, unsigned_abs, List, [], ◌∷◌, ◌++◌, Bool, true, false, refl, sym, ap, ◌∙◌, subst, arith, true≢false, map, length, length-append}
-use Rattle.std.specs.Prelude.{Option, Some, None, ◌==◌, filter, filter_map, cond, if◌then◌else◌}
+use Rattle.std.proofs.Common.{◌≡◌, ℕ, ◌+◌, ◌*◌, ◌^◌, ◌<◌, ◌≤◌, ℤ, pos, negsuc, ◌<ℤ◌, ◌≤ℤ◌, int_le, List, [], ◌∷◌, ◌++◌, Bool, true, false, refl, sym, ap, subst, arith, map, length}
+use Rattle.std.specs.Prelude.{Option, Some, None, ◌==◌, filter, cond, if◌then◌else◌}
 use Rattle.std.specs.List.{All, cons_option}
 use Rattle.std.proofs.lemmas.Bool.{and_from}
 use Rattle.std.proofs.lemmas.Int.{ints}
-use Rattle.std.proofs.lemmas.List.Elements.{All-nil, All-cons, All-from_recursion}
-use Rattle.lean_fixed.specs.Calendar.{last_day}
-use Rattle.lean_fixed.specs.Moments.{midnight, first_moment, last_moment}
+use Rattle.std.proofs.lemmas.List.Elements.{All-nil, All-cons}
+use Rattle.lean_fixed.specs.Moments.{last_moment}
 use Rattle.lean_fixed.specs.Ranges.{IsWindow}
 use Rattle.lean_fixed.specs.declared.resolution.Resolution.{Resolution}
 use Rattle.lean_fixed.specs.declared.time.Window.{Window}
@@ -18,24 +17,24 @@ use Rattle.lean_items.specs.declared.feed_key.FeedKey.{FeedKey}
 use Rattle.lean_items.specs.declared.feed_key.FeedKind.{FeedKind}
 use Rattle.lean_items.specs.declared.feed_key.FeedKind.TheVariants.{Coarse, Equity}
 use Rattle.lean_items.specs.declared.item.Item.{Item}
-use Rattle.lean_items.specs.declared.item.Item.TheVariants.{Bar as BarItem, Coarse as CoarseItem}
+use Rattle.lean_items.specs.declared.item.Item.TheVariants.{Bar as BarItem}
 use Rattle.lean_items.specs.Fits.{fits, Rises as ItemsRise}
 use Rattle.lean_items.specs.Given.{IsRow}
 use Rattle.exchange_hours.specs.Entries.{Entries}
 use Rattle.exchange_hours.specs.Sessions.{LieInDays}
 use Rattle.feed_paths.specs.Files.{from_1970, files_of, files as numbers}
 use Rattle.clock_feeds.specs.Raw.{equity_raw, coarse_raw}
-use Rattle.clock_feeds.specs.Kept.{Kept, cut, kept_bar, kept_bars, kept_coarse_row, kept_coarse}
-use Rattle.clock_feeds.specs.Bars.{Filling, end_of, bar_at}
-use Rattle.clock_feeds.specs.Feeds.{last_item, items_from, coarse_item, coarse_items, row_items, bars_of, coarse_of, filling_of, rows_of, rows, feed_of, feed}
+use Rattle.clock_feeds.specs.Kept.{Kept, cut, kept_bars, kept_coarse_row, kept_coarse}
+use Rattle.clock_feeds.specs.Bars.{end_of}
+use Rattle.clock_feeds.specs.Feeds.{last_item, coarse_item, coarse_items, bars_of, coarse_of, filling_of, rows_of, rows, feed_of, feed}
 use Rattle.clock_feeds.specs.Slices.{coarse_at}
-use Rattle.clock_feeds.specs.Stands.{EndBy, Rises}
-use Rattle.clock_feeds.specs.Lists.{IsSound, IsSoundRow, RowsRise, IsWhole, EndsWithin, row_ending, rows_ending}
+use Rattle.clock_feeds.specs.Stands.{Rises}
+use Rattle.clock_feeds.specs.Lists.{IsSound, IsSoundRow, RowsRise, IsWhole, EndsWithin, rows_ending}
 use Rattle.clock_feeds.proofs.SearchLemmas.{Each}
 use Rattle.clock_feeds.proofs.ListLemmas.{items_whole, items_length}
 use Rattle.clock_feeds.proofs.RiseLemmas.{items_rise, items_within, rows_rise, rows_within, last_rises, alone_within}
 use Rattle.clock_feeds.proofs.SliceLemmas.{plain_items}
-use Rattle.clock_feeds.proofs.CutLemmas.{Rising, Standing, bars_kept, rows_kept, sound_end, cut_short, mapped_short, rows_short, good_rows}
+use Rattle.clock_feeds.proofs.CutLemmas.{bars_kept, rows_kept, sound_end, cut_short, mapped_short, rows_short}
 use Rattle.clock_feeds.proofs.FileRowLemmas.{raw_climbs}
 use Rattle.clock_feeds.proofs.CoarseLemmas.{raw_climbs as coarse_climbs, raw_count}
 

@@ -1,33 +1,32 @@
 -- The entries of a security's files rise: the rows of one file by their order, and those of two by their dates.
-use Rattle.std.proofs.Common.{◌≡◌, ℕ, zero, suc, ◌+◌, ◌-◌, ◌*◌, ◌/◌, ◌%◌, ◌<◌, ◌≤◌, ℤ, pos, negsuc, ◌<ℤ◌, ◌≤ℤ◌, int_lt, unsigned_abs, List, [], ◌∷◌, ◌++◌, Bool, true, false, refl, sym, ap, ◌∙◌, subst, arith, true≢false, map, append-nil}
-use Rattle.std.specs.Prelude.{Option, Some, None, option_map, Result, Ok, Err, cond, nat_lt, if◌then◌else◌, filter, filter_map, flat_map}
+use Rattle.std.proofs.Common.{◌≡◌, ℕ, zero, suc, ◌+◌, ◌-◌, ◌/◌, ◌%◌, ◌<◌, ◌≤◌, ℤ, pos, negsuc, ◌<ℤ◌, ◌≤ℤ◌, int_lt, List, [], ◌∷◌, Bool, true, false, refl, sym, subst, arith, map, append-nil}
+use Rattle.std.specs.Prelude.{Option, Some, None, option_map, Result, Ok, Err, cond, if◌then◌else◌, filter, flat_map}
 use Rattle.std.specs.List.{cons_option, range_with_len}
 use Rattle.std.proofs.lemmas.Int.{ints}
 use Rattle.lean_fixed.specs.Calendar.{last_day}
 use Rattle.lean_fixed.specs.Fields.{fields}
-use Rattle.lean_fixed.specs.Moments.{midnight, day_of, minute_of_day, minutes_per_day}
+use Rattle.lean_fixed.specs.Moments.{midnight, day_of}
 use Rattle.lean_fixed.specs.Ranges.{IsWindow}
 use Rattle.lean_fixed.specs.declared.resolution.Resolution.{Resolution}
 use Rattle.lean_fixed.specs.declared.resolution.Resolution.TheVariants.{Minute, Hour, Daily}
 use Rattle.lean_fixed.specs.declared.time.Window.{Window}
 use Rattle.lean_fixed.proofs.RoundTrips.{day_of_digits-last}
 use Rattle.lean_io.specs.Told.{Files}
-use Rattle.lean_items.specs.declared.feed_key.FeedKind.TheVariants.{Coarse, Equity}
+use Rattle.lean_items.specs.declared.feed_key.FeedKind.TheVariants.{Equity}
 use Rattle.lean_items.specs.declared.reason.Reason.{Reason}
-use Rattle.lean_items.specs.declared.reason.Reason.TheVariants.{Long, Many, Order}
+use Rattle.lean_items.specs.declared.reason.Reason.TheVariants.{Order}
 use Rattle.line_source.specs.Lines.{FileLine, TextLine, BlankLine, LongLine, ManyLine, lines}
 use Rattle.equity_csv.specs.declared.row.Row.{Row}
 use Rattle.equity_csv.specs.Rows.{minute_row, dated_row}
-use Rattle.equity_csv.specs.Written.{IsRow, start_of_row, day_of_row, minute_of_row}
+use Rattle.equity_csv.specs.Written.{IsRow, day_of_row, minute_of_row}
 use Rattle.equity_csv.proofs.SaidLemmas.{minute-valid, minute-of_day, dated-valid, daily-midnight}
 use Rattle.exchange_hours.specs.Entries.{Entries}
-use Rattle.exchange_hours.specs.Grid.{close_of}
 use Rattle.exchange_hours.specs.Sessions.{LieInDays}
 use Rattle.exchange_hours.proofs.GridLemmas.{close_lies, closings_rise}
-use Rattle.feed_paths.specs.Files.{count_to, days, has_session, files_of, day_of as feed_day}
+use Rattle.feed_paths.specs.Files.{count_to, has_session, files_of, day_of as feed_day}
 use Rattle.feed_paths.specs.Paths.{path_of}
-use Rattle.clock_feeds.specs.Entries.{Entry, said, entry_of, entries, checked, row_before, in_order}
-use Rattle.clock_feeds.specs.Raw.{Timed, Raw, timed_says, raw_of, file_entries, equity_row, starts_after, equity_entries, start_of, equity_end, equity_raw}
+use Rattle.clock_feeds.specs.Entries.{Entry, said, entries, checked, row_before, in_order}
+use Rattle.clock_feeds.specs.Raw.{Raw, timed_says, raw_of, file_entries, equity_row, starts_after, equity_entries, start_of, equity_end, equity_raw}
 use Rattle.clock_feeds.proofs.CutLemmas.{OnEnd, OnSays, Climbs, climbs_append, climbs_lower}
 use Rattle.clock_feeds.proofs.SearchLemmas.{none_some, same_some}
 
@@ -77,9 +76,12 @@ module _ (file until : ℕ) (end_of : Row → Option ℕ) (Valid : Row → Type 
       by : (o : Option ℕ) → end_of row ≡ o → OnEnd Rising IsRow P after until row o
       by None is = later after (λ next v f e h. above next v (follows_past before row next follows f) e h)
       by (Some end) is =
-          let here = above row valid follows end is in
-          (here.0, here.1, good row valid,
-          later end (λ next v f e h. (rise row next valid v (later_start row.start.0 next.start.0 f) end e is h, (above next v (follows_past before row next follows f) e h).1)))
+          let here = above row valid follows end is in (
+            here.0,
+            here.1,
+            good row valid,
+            later end (λ next v f e h. (rise row next valid v (later_start row.start.0 next.start.0 f) end e is h, (above next v (follows_past before row next follows f) e h).1)),
+          )
 
   pub order_climbs : (after : ℕ) (before : Option Row) (es : List (Entry Row)) → AllValid Valid es → Above after before
       → Climbs Rising IsRow after until (map (raw_of file end_of) (in_order starts_after before es))
@@ -215,6 +217,7 @@ module _ (files : Files) (hours : Entries) (symbol : List ℕ) where
     where
       here : from ≤ last_day
       here = exist from (omega arith) (omega arith)
+
       by : (b : Bool) → Climbs Rising IsRow (midnight (from + 1)) 121000000 (flat_map (raw_file files hours symbol Minute) (filter (has_session hours) (range_with_len (from + 1) n)))
           → Climbs Rising IsRow after 121000000 (flat_map (raw_file files hours symbol Minute)
           (cond b (from ∷ filter (has_session hours) (range_with_len (from + 1) n)) (filter (has_session hours) (range_with_len (from + 1) n))))

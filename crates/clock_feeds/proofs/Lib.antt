@@ -7,3 +7,4 @@ pub mod CutLemmas
 pub mod FileRowLemmas
 pub mod CoarseLemmas
 pub mod FeedLemmas
+pub mod StandLemmas

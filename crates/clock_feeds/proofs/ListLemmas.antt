@@ -1,7 +1,6 @@
 -- What the items of a security are from a moment on: the next bar and the items past it, or the last item alone.
-use Rattle.std.proofs.Common.{◌≡◌, ℕ, zero, suc, ◌+◌, ◌-◌, ◌<◌, ◌≤◌, ◌⊎◌, List, [], ◌∷◌, ◌++◌, Bool, true, false, refl, sym, ap, ◌∙◌, subst, arith, inl, inr, true≢false, length}
-use Rattle.std.specs.Prelude.{Option, Some, None, find, filter, cond, ◌==◌, ◌&&◌, not, nat_lt, nat_le, option_map, is_some, if◌then◌else◌, flat_map, option_to_list}
-use Rattle.std.specs.List.{list_all, last_or, range_with_len, All}
+use Rattle.std.proofs.Common.{◌≡◌, ℕ, zero, suc, ◌+◌, ◌-◌, ◌<◌, ◌≤◌, ◌⊎◌, List, [], ◌∷◌, ◌++◌, Bool, true, false, refl, sym, ap, ◌∙◌, subst, arith, inl, inr, length}
+use Rattle.std.specs.Prelude.{Option, Some, None, find, option_map, if◌then◌else◌, option_to_list}
 use Rattle.std.specs.Option.{option_or}
 use Rattle.std.proofs.lemmas.Bool.Decides.{nat_tests}
 use Rattle.std.proofs.lemmas.Bool.{cases_lt}
@@ -14,10 +13,10 @@ use Rattle.lean_items.specs.Given.{IsRow}
 use Rattle.clock_steps.specs.Walks.{walk}
 use Rattle.clock_steps.proofs.WalkLemmas.{walk-first}
 use Rattle.clock_feeds.specs.Kept.{Kept}
-use Rattle.clock_feeds.specs.Bars.{Filling, end_of, ends_at, ends_before, ends_by, is_over, fills_at, filled, latest, bar_at, blocked}
+use Rattle.clock_feeds.specs.Bars.{Filling, end_of, ends_at, fills_at, filled, latest, bar_at}
 use Rattle.clock_feeds.specs.Feeds.{last_item, items_at, items_from}
 use Rattle.clock_feeds.specs.Lists.{IsWhole, IsNextBar, IsAtEnd}
-use Rattle.clock_feeds.proofs.SearchLemmas.{none_some, same_some, Each, found, not_all}
+use Rattle.clock_feeds.proofs.SearchLemmas.{none_some, same_some, Each, found}
 
 -- the bar at a moment is a row that ends there, or it is filled
 abbrev pub IsGiven : Filling → Kept Bar → ℕ → Bar → Type 0
@@ -54,7 +53,7 @@ found_ends t rows bar is =
 pub bar_ends : (f : Filling) (kept : Kept Bar) (t : ℕ) (bar : Bar) → bar_at f kept t ≡ Some bar → end_of bar ≡ t
 bar_ends f kept t bar is =
     elim (bar_given f kept t bar is) [
-      inl row ↦ found_ends t kept.rows bar row
+      | inl row ↦ found_ends t kept.rows bar row
       | inr fresh ↦ sym (ap end_of fresh.2)
     ]
 
@@ -101,28 +100,34 @@ Begins f kept from = ((bar : Bar) × IsNextBar f kept from bar) ⊎ IsAtEnd f ke
 or_later : (f : Filling) (kept : Kept Bar) (from t : ℕ) → bar_at f kept from ≡ None → from ≤ t → (from + 1 ≤ t → bar_at f kept t ≡ None) → bar_at f kept t ≡ None
 or_later f kept from t here low later =
     elim (cases_lt from t) [
-      inl past ↦ later (omega arith)
+      | inl past ↦ later (omega arith)
       | inr under ↦ (let e : from ≡ t = omega arith in subst (λ k. bar_at f kept k ≡ None) e here)
     ]
 
 begins_at : (f : Filling) (kept : Kept Bar) (from : ℕ) (o : Option Bar) → bar_at f kept from ≡ o → from ≤ f.last → Begins f kept (from + 1) → Begins f kept from
 begins_at f kept from (Some bar) here within later =
     let e : end_of bar ≡ from = bar_ends f kept from bar here in
-    inl (bar, record {
-      is = subst (λ k. items_from f kept from ≡ BarItem bar ∷ items_from f kept (k + 1)) (sym e) (items_next f kept from bar here within);
-      ends = subst (λ k. bar_at f kept k ≡ Some bar) (sym e) here;
-      since = omega (arith, e);
-      until = omega (arith, e);
-      none = λ t low high. absurd (omega (arith, e));
-    })
+    inl (
+      bar,
+      record {
+        is = subst (λ k. items_from f kept from ≡ BarItem bar ∷ items_from f kept (k + 1)) (sym e) (items_next f kept from bar here within);
+        ends = subst (λ k. bar_at f kept k ≡ Some bar) (sym e) here;
+        since = omega (arith, e);
+        until = omega (arith, e);
+        none = λ t low high. absurd (omega (arith, e));
+      },
+    )
 begins_at f kept from None here within (inl (bar, next)) =
-    inl (bar, record {
-      is = items_none f kept from here within ∙ next.is;
-      ends = next.ends;
-      since = omega (arith, next.since);
-      until = next.until;
-      none = λ t low high. or_later f kept from t here low (λ l. next.none t l high);
-    })
+    inl (
+      bar,
+      record {
+        is = items_none f kept from here within ∙ next.is;
+        ends = next.ends;
+        since = omega (arith, next.since);
+        until = next.until;
+        none = λ t low high. or_later f kept from t here low (λ l. next.none t l high);
+      },
+    )
 begins_at f kept from None here within (inr last) =
     inr (record {
       is = items_none f kept from here within ∙ last.is;
@@ -156,12 +161,12 @@ pub told_bar : (f : Filling) (kept : Kept Bar) (from : ℕ) (bar : Bar) (rest : 
     → IsNextBar f kept from bar × (rest ≡ items_from f kept (end_of bar + 1))
 told_bar f kept from bar rest is =
     elim (begins f kept from) [
-      inl next ↦ (
-        let same : BarItem bar ∷ rest ≡ BarItem next.0 ∷ items_from f kept (end_of next.0 + 1) = sym is ∙ next.1.is in
-        let bars : next.0 ≡ bar = cc in
-        let goes_on : rest ≡ items_from f kept (end_of next.0 + 1) = cc in
-        (subst (λ b. IsNextBar f kept from b) bars next.1, subst (λ b. rest ≡ items_from f kept (end_of b + 1)) bars goes_on)
-      )
+      | inl next ↦ (
+          let same : BarItem bar ∷ rest ≡ BarItem next.0 ∷ items_from f kept (end_of next.0 + 1) = sym is ∙ next.1.is in
+          let bars : next.0 ≡ bar = cc in
+          let goes_on : rest ≡ items_from f kept (end_of next.0 + 1) = cc in
+          (subst (λ b. IsNextBar f kept from b) bars next.1, subst (λ b. rest ≡ items_from f kept (end_of b + 1)) bars goes_on)
+          )
       | inr last ↦ absurd (no_bar_last bar rest kept.stop (sym is ∙ last.is))
     ]
 
@@ -169,7 +174,7 @@ pub told_bad : (f : Filling) (kept : Kept Bar) (from : ℕ) (bad : Bad) (rest : 
     → IsAtEnd f kept from × (kept.stop ≡ Some bad) × (rest ≡ [])
 told_bad f kept from bad rest is =
     elim (begins f kept from) [
-      inl next ↦ (let same : BadItem bad ∷ rest ≡ BarItem next.0 ∷ items_from f kept (end_of next.0 + 1) = sym is ∙ next.1.is in absurd cc)
+      | inl next ↦ (let same : BadItem bad ∷ rest ≡ BarItem next.0 ∷ items_from f kept (end_of next.0 + 1) = sym is ∙ next.1.is in absurd cc)
       | inr last ↦ (let rest_is = bad_last bad rest kept.stop (sym is ∙ last.is) in (last, rest_is.0, rest_is.1))
     ]
 
@@ -177,7 +182,7 @@ pub told_end : (f : Filling) (kept : Kept Bar) (from : ℕ) (rest : List Item) �
     → IsAtEnd f kept from × (kept.stop ≡ None) × (rest ≡ [])
 told_end f kept from rest is =
     elim (begins f kept from) [
-      inl next ↦ (let same : End ∷ rest ≡ BarItem next.0 ∷ items_from f kept (end_of next.0 + 1) = sym is ∙ next.1.is in absurd cc)
+      | inl next ↦ (let same : End ∷ rest ≡ BarItem next.0 ∷ items_from f kept (end_of next.0 + 1) = sym is ∙ next.1.is in absurd cc)
       | inr last ↦ (let rest_is = end_last rest kept.stop (sym is ∙ last.is) in (last, rest_is.0, rest_is.1))
     ]
 
@@ -186,10 +191,10 @@ whole_by : (f : Filling) (kept : Kept Bar) (n from : ℕ) → f.last + 1 - from 
 whole_by f kept zero from e = record { rows = []; stop = kept.stop; is = items_past f kept from (omega (arith, e)); are_rows = All-nil IsRow }
 whole_by f kept (suc n) from e =
     elim (begins f kept from) [
-      inl next ↦ (
-        let rest = whole_by f kept n (end_of next.0 + 1) (omega (arith, e, next.1.since, next.1.until)) in
-        record { rows = BarItem next.0 ∷ rest.rows; stop = rest.stop; is = next.1.is ∙ ap (λ xs. BarItem next.0 ∷ xs) rest.is; are_rows = All-cons IsRow (BarItem next.0) rest.rows refl rest.are_rows }
-      )
+      | inl next ↦ (
+          let rest = whole_by f kept n (end_of next.0 + 1) (omega (arith, e, next.1.since, next.1.until)) in
+          record { rows = BarItem next.0 ∷ rest.rows; stop = rest.stop; is = next.1.is ∙ ap (λ xs. BarItem next.0 ∷ xs) rest.is; are_rows = All-cons IsRow (BarItem next.0) rest.rows refl rest.are_rows }
+          )
       | inr last ↦ record { rows = []; stop = kept.stop; is = last.is; are_rows = All-nil IsRow }
     ]
 
@@ -201,11 +206,11 @@ length_by : (f : Filling) (kept : Kept Bar) (n from : ℕ) → f.last + 1 - from
 length_by f kept zero from e = let is = ap length (items_past f kept from (omega (arith, e))) in omega (arith, is)
 length_by f kept (suc n) from e =
     elim (begins f kept from) [
-      inl next ↦ (
-        let rest = length_by f kept n (end_of next.0 + 1) (omega (arith, e, next.1.since, next.1.until)) in
-        let is = ap length next.1.is in
-        omega (arith, is, rest)
-      )
+      | inl next ↦ (
+          let rest = length_by f kept n (end_of next.0 + 1) (omega (arith, e, next.1.since, next.1.until)) in
+          let is = ap length next.1.is in
+          omega (arith, is, rest)
+          )
       | inr last ↦ (let is = ap length last.is in omega (arith, is))
     ]
 

@@ -1,27 +1,25 @@
 -- The items of a security rise past the start of their feed and lie within its window, with their numbers in range.
-use Rattle.std.proofs.Common.{◌≡◌, ℕ, zero, suc, ◌+◌, ◌-◌, ◌<◌, ◌≤◌, ◌⊎◌, ℤ, pos, negsuc, ◌<ℤ◌, ◌≤ℤ◌, int_lt, int_le, List, [], ◌∷◌, ◌++◌, Bool, true, false, refl, sym, ap, ◌∙◌, subst, arith, inl, inr, true≢false, map}
-use Rattle.std.specs.Prelude.{Option, Some, None, find, filter, cond, ◌==◌, ◌&&◌, option_map, option_to_list}
-use Rattle.std.specs.List.{last_or, All}
+use Rattle.std.proofs.Common.{◌≡◌, ℕ, zero, suc, ◌+◌, ◌-◌, ◌<◌, ◌≤◌, ℤ, pos, ◌<ℤ◌, ◌≤ℤ◌, List, [], ◌∷◌, ◌++◌, Bool, true, refl, sym, subst, arith, inl, inr, map}
+use Rattle.std.specs.Prelude.{Option, Some, None, ◌&&◌}
+use Rattle.std.specs.List.{All}
 use Rattle.std.proofs.lemmas.Bool.Decides.{nat_tests}
-use Rattle.std.proofs.lemmas.Bool.{cases_lt, and_parts, and_from}
+use Rattle.std.proofs.lemmas.Bool.{and_from}
 use Rattle.std.proofs.lemmas.Int.{ints}
 use Rattle.std.proofs.lemmas.List.Elements.{All-nil, All-cons}
 use Rattle.lean_fixed.specs.declared.resolution.Resolution.{Resolution}
 use Rattle.lean_fixed.specs.declared.resolution.Resolution.TheVariants.{Minute, Hour, Daily}
-use Rattle.lean_fixed.specs.Moments.{midnight, day_of}
 use Rattle.lean_items.specs.declared.bad.Bad.{Bad}
 use Rattle.lean_items.specs.declared.bar.Bar.{Bar}
-use Rattle.lean_items.specs.declared.item.Item.{Item}
-use Rattle.lean_items.specs.declared.item.Item.TheVariants.{Bar as BarItem, Bad as BadItem, End}
-use Rattle.lean_items.specs.Fits.{is_within, is_moment, is_price, is_volume, is_bar_in_range, fits, Rises as ItemsRise}
+use Rattle.lean_items.specs.declared.item.Item.TheVariants.{Bar as BarItem}
+use Rattle.lean_items.specs.Fits.{is_moment, is_price, is_volume, is_bar_in_range, fits, Rises as ItemsRise}
 use Rattle.exchange_hours.specs.Grid.{bar_start}
 use Rattle.clock_feeds.specs.Kept.{Kept}
-use Rattle.clock_feeds.specs.Bars.{Filling, end_of, ends_at, ends_before, filled, latest, bar_at}
+use Rattle.clock_feeds.specs.Bars.{Filling, end_of, ends_at, ends_before, filled, bar_at}
 use Rattle.clock_feeds.specs.Feeds.{last_item, items_from, row_items}
-use Rattle.clock_feeds.specs.Stands.{EndBy, Rises}
-use Rattle.clock_feeds.specs.Lists.{IsSound, EndsWithin, IsNextBar}
+use Rattle.clock_feeds.specs.Stands.{Rises}
+use Rattle.clock_feeds.specs.Lists.{IsSound, EndsWithin}
 use Rattle.clock_feeds.proofs.SearchLemmas.{Each, found, last_holds, each_filtered, none_some}
-use Rattle.clock_feeds.proofs.ListLemmas.{bar_given, bar_ends, begins, items_past}
+use Rattle.clock_feeds.proofs.ListLemmas.{bar_given, begins, items_past}
 
 moment_tested : (n : ℕ) → n ≤ 121000000 → is_moment (pos n) ≡ true
 moment_tested n h = grind (arith, ints)
@@ -49,20 +47,20 @@ pub bar_sound : (start : ℤ) (f : Filling) (kept : Kept Bar) (t : ℕ) (bar : B
     → bar_at f kept t ≡ Some bar → IsSound start f.last bar
 bar_sound start f kept t bar small sound within is =
     elim (bar_given f kept t bar is) [
-      inl row ↦ (found (ends_at t) (IsSound start f.last) kept.rows bar sound row).1
+      | inl row ↦ (found (ends_at t) (IsSound start f.last) kept.rows bar sound row).1
       | inr fresh ↦ (
-        let row = fresh.0 in
-        let before : IsSound start f.last row × (ends_before t row ≡ true) =
-        last_holds (λ x. IsSound start f.last x × (ends_before t x ≡ true)) _ None row (each_filtered (ends_before t) (IsSound start f.last) kept.rows sound) (λ y e. absurd (none_some e)) fresh.1 in
-        let passed : end_of row < t = (let h : ends_before t row ≡ true = before.1 in grind (arith, nat_tests)) in
-        let after : start <ℤ pos (end_of row) = subst (λ z. start <ℤ z) before.0.end before.0.after in
-        subst (IsSound start f.last) fresh.2 (record {
-          end = refl;
-          after = omega (arith, ints, after, passed);
-          until = within;
-          in_range = filled_in_range f t row (omega (arith, small, within)) before.0.in_range;
-        })
-      )
+          let row = fresh.0 in
+          let before : IsSound start f.last row × (ends_before t row ≡ true) =
+          last_holds (λ x. IsSound start f.last x × (ends_before t x ≡ true)) _ None row (each_filtered (ends_before t) (IsSound start f.last) kept.rows sound) (λ y e. absurd (none_some e)) fresh.1 in
+          let passed : end_of row < t = (let h : ends_before t row ≡ true = before.1 in grind (arith, nat_tests)) in
+          let after : start <ℤ pos (end_of row) = subst (λ z. start <ℤ z) before.0.end before.0.after in
+          subst (IsSound start f.last) fresh.2 (record {
+            end = refl;
+            after = omega (arith, ints, after, passed);
+            until = within;
+            in_range = filled_in_range f t row (omega (arith, small, within)) before.0.in_range;
+          })
+          )
     ]
 
 pub last_rises : (z : ℤ) (stop : Option Bad) → ItemsRise z (last_item stop ∷ [])
@@ -77,14 +75,15 @@ rises_by : (start z : ℤ) (f : Filling) (kept : Kept Bar) (n from : ℕ) → f.
 rises_by start z f kept zero from small sound e above = subst (ItemsRise z) (sym (items_past f kept from (omega (arith, e)))) (last_rises z kept.stop)
 rises_by start z f kept (suc n) from small sound e above =
     elim (begins f kept from) [
-      inl next ↦ (
-        let bar = next.0 in
-        let is_sound = bar_sound start f kept (end_of bar) bar small sound next.1.until next.1.ends in
-        subst (ItemsRise z) (sym next.1.is)
-        (bar_fits start z f.last bar is_sound (above bar next.1.since is_sound),
-        rises_by start bar.end.0 f kept n (end_of bar + 1) small sound (omega (arith, e, next.1.since, next.1.until))
-        (λ later past s. rw (s.end, is_sound.end) (omega (arith, ints, past))))
-      )
+      | inl next ↦ (
+          let bar = next.0 in
+          let is_sound = bar_sound start f kept (end_of bar) bar small sound next.1.until next.1.ends in
+          subst (ItemsRise z) (sym next.1.is) (
+            bar_fits start z f.last bar is_sound (above bar next.1.since is_sound),
+            rises_by start bar.end.0 f kept n (end_of bar + 1) small sound (omega (arith, e, next.1.since, next.1.until))
+                (λ later past s. rw (s.end, is_sound.end) (omega (arith, ints, past))),
+          )
+          )
       | inr last ↦ subst (ItemsRise z) (sym last.is) (last_rises z kept.stop)
     ]
 
@@ -108,13 +107,13 @@ within_by start f kept zero from small sound e =
     subst (All (EndsWithin start (pos f.last))) (sym (items_past f kept from (omega (arith, e)))) (alone_within start (pos f.last) kept.stop)
 within_by start f kept (suc n) from small sound e =
     elim (begins f kept from) [
-      inl next ↦ (
-        let bar = next.0 in
-        let is_sound = bar_sound start f kept (end_of bar) bar small sound next.1.until next.1.ends in
-        subst (All (EndsWithin start (pos f.last))) (sym next.1.is)
-        (All-cons (EndsWithin start (pos f.last)) (BarItem bar) (items_from f kept (end_of bar + 1)) (bar_within start f.last bar is_sound)
-        (within_by start f kept n (end_of bar + 1) small sound (omega (arith, e, next.1.since, next.1.until))))
-      )
+      | inl next ↦ (
+          let bar = next.0 in
+          let is_sound = bar_sound start f kept (end_of bar) bar small sound next.1.until next.1.ends in
+          subst (All (EndsWithin start (pos f.last))) (sym next.1.is)
+          (All-cons (EndsWithin start (pos f.last)) (BarItem bar) (items_from f kept (end_of bar + 1)) (bar_within start f.last bar is_sound)
+          (within_by start f kept n (end_of bar + 1) small sound (omega (arith, e, next.1.since, next.1.until))))
+          )
       | inr last ↦ subst (All (EndsWithin start (pos f.last))) (sym last.is) (alone_within start (pos f.last) kept.stop)
     ]
 

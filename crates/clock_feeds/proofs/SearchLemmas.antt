@@ -1,5 +1,5 @@
 -- What a search, a filter and a last element tell.
-use Rattle.std.proofs.Common.{◌≡◌, ℕ, Bool, true, false, List, [], ◌∷◌, ◌++◌, refl, sym, ap, ◌∙◌, subst, true≢false}
+use Rattle.std.proofs.Common.{◌≡◌, Bool, true, false, List, [], ◌∷◌, refl, subst, true≢false}
 use Rattle.std.specs.Prelude.{Option, Some, None, find, filter, cond, ◌&&◌}
 use Rattle.std.specs.List.{list_all, last_or}
 pub use Rattle.std.specs.List.{AllByRecursion as Each}

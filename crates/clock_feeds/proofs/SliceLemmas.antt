@@ -1,23 +1,23 @@
 -- The bars of a list that end at a moment are the bar there, and a list is blocked where its feed is.
-use Rattle.std.proofs.Common.{◌≡◌, ℕ, zero, suc, ◌+◌, ◌-◌, ◌<◌, ◌≤◌, ◌⊎◌, List, [], ◌∷◌, ◌++◌, Bool, true, false, refl, sym, ap, ap₂, ◌∙◌, subst, arith, inl, inr, true≢false, map}
-use Rattle.std.specs.Prelude.{Option, Some, None, find, filter, cond, ◌==◌, ◌&&◌, not, nat_lt, nat_le, option_map, is_some, if◌then◌else◌, flat_map, filter_map, option_to_list}
-use Rattle.std.specs.List.{list_all, last_or}
+use Rattle.std.proofs.Common.{◌≡◌, ℕ, zero, suc, ◌+◌, ◌-◌, ◌<◌, ◌≤◌, List, [], ◌∷◌, ◌++◌, Bool, true, false, refl, sym, ap, ap₂, ◌∙◌, subst, arith, inl, inr, true≢false, map}
+use Rattle.std.specs.Prelude.{Option, Some, None, find, cond, ◌==◌, ◌&&◌, not, nat_le, option_map, is_some, if◌then◌else◌, option_to_list}
+use Rattle.std.specs.List.{list_all}
 use Rattle.std.specs.Option.{option_or}
 use Rattle.std.proofs.lemmas.Bool.Decides.{nat_tests}
 use Rattle.std.proofs.lemmas.Bool.{cases_lt, and_parts, and_from}
 use Rattle.lean_items.specs.declared.bad.Bad.{Bad}
 use Rattle.lean_items.specs.declared.bar.Bar.{Bar}
 use Rattle.lean_items.specs.declared.item.Item.{Item}
-use Rattle.lean_items.specs.declared.item.Item.TheVariants.{Bar as BarItem, Bad as BadItem, End}
+use Rattle.lean_items.specs.declared.item.Item.TheVariants.{Bar as BarItem}
 use Rattle.clock_feeds.specs.Kept.{Kept}
-use Rattle.clock_feeds.specs.Bars.{Filling, end_of, ends_at, ends_before, ends_by, is_over, fills_at, filled, latest, bar_at, blocked}
+use Rattle.clock_feeds.specs.Bars.{Filling, end_of, ends_at, ends_before, ends_by, is_over, fills_at, filled, bar_at, blocked}
 use Rattle.clock_feeds.specs.Feeds.{last_item, items_from, row_items}
 use Rattle.clock_feeds.specs.Slices.{Source, bars_at, slice, blocked_at, refused}
 use Rattle.clock_feeds.specs.Stands.{EndBy, Rises}
-use Rattle.clock_feeds.specs.Lists.{IsNextBar, IsAtEnd, bar_ending, bars_ending, is_by, stop_in, blocked_in, list_of, bars_in, slice_in, bad_in, refused_in, EndInWindows}
-use Rattle.clock_feeds.proofs.BarLemmas.{none_by, none_later}
-use Rattle.clock_feeds.proofs.SearchLemmas.{none_some, same_some}
-use Rattle.clock_feeds.proofs.ListLemmas.{bar_given, bar_found, bar_ends, begins, items_past, items_next, items_none, items_skip}
+use Rattle.clock_feeds.specs.Lists.{IsNextBar, IsAtEnd, bars_ending, is_by, stop_in, blocked_in, list_of, bars_in, slice_in, bad_in, refused_in, EndInWindows}
+use Rattle.clock_feeds.proofs.BarLemmas.{none_by, none_later, none_before}
+use Rattle.clock_feeds.proofs.SearchLemmas.{none_some}
+use Rattle.clock_feeds.proofs.ListLemmas.{bar_given, bar_found, begins, items_past, items_next, items_skip}
 
 -- ---- the bars that end at a moment
 
@@ -35,11 +35,11 @@ no_bars : (f : Filling) (kept : Kept Bar) (n from t : ℕ) → f.last + 1 - from
 no_bars f kept zero from t e other = ap (bars_ending t) (items_past f kept from (omega (arith, e))) ∙ no_last_bar t kept.stop
 no_bars f kept (suc n) from t e other =
     elim (begins f kept from) [
-      inl next ↦ (
-        let bar = next.0 in
-        ap (bars_ending t) next.1.is ∙ other_bar t bar (items_from f kept (end_of bar + 1)) (other (end_of bar) next.1.since next.1.until)
-        ∙ no_bars f kept n (end_of bar + 1) t (omega (arith, e, next.1.since, next.1.until)) (λ k low high. other k (omega (arith, low, next.1.since)) high)
-      )
+      | inl next ↦ (
+          let bar = next.0 in
+          ap (bars_ending t) next.1.is ∙ other_bar t bar (items_from f kept (end_of bar + 1)) (other (end_of bar) next.1.since next.1.until)
+          ∙ no_bars f kept n (end_of bar + 1) t (omega (arith, e, next.1.since, next.1.until)) (λ k low high. other k (omega (arith, low, next.1.since)) high)
+          )
       | inr last ↦ ap (bars_ending t) last.is ∙ no_last_bar t kept.stop
     ]
 
@@ -50,23 +50,23 @@ bars_with : (f : Filling) (kept : Kept Bar) (from t : ℕ) (bar : Bar) → IsNex
     → (end_of bar < t → bars_ending t (items_from f kept (end_of bar + 1)) ≡ option_to_list (bar_at f kept t)) → bars_ending t (items_from f kept from) ≡ option_to_list (bar_at f kept t)
 bars_with f kept from t bar next low later =
     elim (cases_lt t (end_of bar)) [
-      inl early ↦ (
-        let other : (end_of bar == t) ≡ false = grind (arith, nat_tests) in
-        ap (bars_ending t) next.is ∙ other_bar t bar (items_from f kept (end_of bar + 1)) other ∙ none_till f kept (end_of bar + 1) t (omega (arith, early))
-        ∙ sym (ap option_to_list (next.none t low early))
-      )
-      | inr over ↦ elim (cases_lt (end_of bar) t) [
-        inl past ↦ (
+      | inl early ↦ (
           let other : (end_of bar == t) ≡ false = grind (arith, nat_tests) in
-          ap (bars_ending t) next.is ∙ other_bar t bar (items_from f kept (end_of bar + 1)) other ∙ later past
-        )
+          ap (bars_ending t) next.is ∙ other_bar t bar (items_from f kept (end_of bar + 1)) other ∙ none_till f kept (end_of bar + 1) t (omega (arith, early))
+          ∙ sym (ap option_to_list (next.none t low early))
+          )
+      | inr over ↦ elim (cases_lt (end_of bar) t) [
+        | inl past ↦ (
+            let other : (end_of bar == t) ≡ false = grind (arith, nat_tests) in
+            ap (bars_ending t) next.is ∙ other_bar t bar (items_from f kept (end_of bar + 1)) other ∙ later past
+            )
         | inr under ↦ (
-          let e : end_of bar ≡ t = omega (arith, over, under) in
-          let same : (end_of bar == t) ≡ true = grind (arith, nat_tests) in
-          let here : bar_at f kept t ≡ Some bar = subst (λ k. bar_at f kept k ≡ Some bar) e next.ends in
-          ap (bars_ending t) next.is ∙ same_bar t bar (items_from f kept (end_of bar + 1)) same
-          ∙ ap (λ xs. bar ∷ xs) (none_till f kept (end_of bar + 1) t (omega (arith, e))) ∙ sym (ap option_to_list here)
-        )
+            let e : end_of bar ≡ t = omega (arith, over, under) in
+            let same : (end_of bar == t) ≡ true = grind (arith, nat_tests) in
+            let here : bar_at f kept t ≡ Some bar = subst (λ k. bar_at f kept k ≡ Some bar) e next.ends in
+            ap (bars_ending t) next.is ∙ same_bar t bar (items_from f kept (end_of bar + 1)) same
+            ∙ ap (λ xs. bar ∷ xs) (none_till f kept (end_of bar + 1) t (omega (arith, e))) ∙ sym (ap option_to_list here)
+            )
       ]
     ]
 
@@ -74,7 +74,7 @@ bars_by : (f : Filling) (kept : Kept Bar) (n from t : ℕ) → f.last + 1 - from
 bars_by f kept zero from t e low high = absurd (omega (arith, e))
 bars_by f kept (suc n) from t e low high =
     elim (begins f kept from) [
-      inl next ↦ bars_with f kept from t next.0 next.1 low (λ past. bars_by f kept n (end_of next.0 + 1) t (omega (arith, e, next.1.since, next.1.until)) (omega (arith, past)) high)
+      | inl next ↦ bars_with f kept from t next.0 next.1 low (λ past. bars_by f kept n (end_of next.0 + 1) t (omega (arith, e, next.1.since, next.1.until)) (omega (arith, past)) high)
       | inr last ↦ ap (bars_ending t) last.is ∙ no_last_bar t kept.stop ∙ sym (ap option_to_list (last.none t low high))
     ]
 
@@ -93,25 +93,18 @@ bar_late f kept t ends past =
 pub bars_told : (f : Filling) (kept : Kept Bar) (t : ℕ) → EndBy f.last kept.rows → bars_ending t (items_from f kept 0) ≡ option_to_list (bar_at f kept t)
 bars_told f kept t ends =
     elim (cases_lt f.last t) [
-      inl past ↦ no_bars f kept (f.last + 1) 0 t (omega arith) (λ e low high. grind (arith, nat_tests)) ∙ sym (ap option_to_list (bar_late f kept t ends past))
+      | inl past ↦ no_bars f kept (f.last + 1) 0 t (omega arith) (λ e low high. grind (arith, nat_tests)) ∙ sym (ap option_to_list (bar_late f kept t ends past))
       | inr within ↦ bars_by f kept (f.last + 1) 0 t (omega arith) (omega arith) within
     ]
-
--- no bar ends at or before the moment past which the kept rows rise
-no_rows_before : (after t : ℕ) (rows : List Bar) → Rises after rows → t ≤ after → filter (ends_before t) rows ≡ []
-no_rows_before after t [] rises low = refl
-no_rows_before after t (row ∷ rows) rises low =
-    let other : ends_before t row ≡ false = (let up : after < end_of row = rises.0 in grind (arith, nat_tests)) in
-    let up : after < end_of row = rises.0 in
-    rw (other, no_rows_before (end_of row) t rows rises.1 (omega (arith, up))) refl
 
 nothing_to_fill : (b : Bool) (f : Filling) (t : ℕ) → (if b then option_map (filled f t) None else None) ≡ None
 nothing_to_fill true f t = refl
 nothing_to_fill false f t = refl
 
+-- no bar ends at or before the moment past which the kept rows rise
 pub bar_early : (f : Filling) (kept : Kept Bar) (after t : ℕ) → Rises after kept.rows → t ≤ after → bar_at f kept t ≡ None
 unfolding bar_at
-bar_early f kept after t rises low = rw (none_later after t kept.rows rises low, no_rows_before after t kept.rows rises low) (nothing_to_fill (fills_at f kept t) f t)
+bar_early f kept after t rises low = rw (none_later after t kept.rows rises low, none_before after t kept.rows rises (omega (arith, low))) (nothing_to_fill (fills_at f kept t) f t)
 
 -- so the walk may begin past it
 pub items_start : (f : Filling) (kept : Kept Bar) (after from : ℕ) → Rises after kept.rows → from ≤ after + 1 → after ≤ f.last → items_from f kept from ≡ items_from f kept (after + 1)
@@ -159,12 +152,13 @@ not_blocked f kept e bar s is low = by kept.stop refl
     with_stop bad stop false all = refl
     with_stop bad stop true all =
         elim (bar_given f kept e bar is) [
-          inl row ↦ absurd (true≢false (sym all ∙ not_by s e kept.rows bar row low))
+          | inl row ↦ absurd (true≢false (sym all ∙ not_by s e kept.rows bar row low))
           | inr fresh ↦ (
-            let some_left = not_over kept.stop (list_all (ends_before e) kept.rows) bad stop (fills_parts f.fills (nat_le e f.last) _ (is_over kept e) fresh.3) in
-            absurd (true≢false (sym (by_earlier s e kept.rows low all) ∙ some_left))
-          )
+              let some_left = not_over kept.stop (list_all (ends_before e) kept.rows) bad stop (fills_parts f.fills (nat_le e f.last) _ (is_over kept e) fresh.3) in
+              absurd (true≢false (sym (by_earlier s e kept.rows low all) ∙ some_left))
+              )
         ]
+
     by : (stop : Option Bad) → kept.stop ≡ stop → blocked kept s ≡ None
     by None stop_is = no_stop (list_all (ends_by s) kept.rows) kept.stop stop_is
     by (Some bad) stop_is = with_stop bad stop_is (list_all (ends_by s) kept.rows) refl
@@ -188,11 +182,11 @@ all_passed from last s [] ends low none = refl
 all_passed from last s (row ∷ rows) ends low none =
     let within : end_of row ≤ last = ends.0 in
     let here : ends_by s row ≡ true = elim (cases_lt (end_of row) from) [
-      inl before ↦ grind (arith, nat_tests)
+      | inl before ↦ grind (arith, nat_tests)
       | inr since ↦ (
-        let other : ends_at (end_of row) row ≡ false = (not_found (ends_at (end_of row)) row rows (none (end_of row) since within)).0 in
-        grind (arith, nat_tests)
-      )
+          let other : ends_at (end_of row) row ≡ false = (not_found (ends_at (end_of row)) row rows (none (end_of row) since within)).0 in
+          grind (arith, nat_tests)
+          )
     ] in
     and_from (ends_by s row) (list_all (ends_by s) rows) here (all_passed from last s rows ends.1 low (λ t l h. (not_found (ends_at t) row rows (none t l h)).1))
 
@@ -209,7 +203,7 @@ stop_by : (f : Filling) (kept : Kept Bar) (n from : ℕ) → f.last + 1 - from �
 stop_by f kept zero from e = ap stop_in (items_past f kept from (omega (arith, e))) ∙ stop_of_last kept.stop
 stop_by f kept (suc n) from e =
     elim (begins f kept from) [
-      inl next ↦ ap stop_in next.1.is ∙ stop_by f kept n (end_of next.0 + 1) (omega (arith, e, next.1.since, next.1.until))
+      | inl next ↦ ap stop_in next.1.is ∙ stop_by f kept n (end_of next.0 + 1) (omega (arith, e, next.1.since, next.1.until))
       | inr last ↦ ap stop_in last.is ∙ stop_of_last kept.stop
     ]
 
@@ -225,17 +219,17 @@ items_by : (f : Filling) (kept : Kept Bar) (bad : Bad) (n from t : ℕ) → f.la
 items_by f kept bad zero from t e stop all = ap (list_all (is_by t)) (items_past f kept from (omega (arith, e))) ∙ last_is_by t kept.stop
 items_by f kept bad (suc n) from t e stop all =
     elim (begins f kept from) [
-      inl next ↦ (
-        let bar = next.0 in
-        let is_blocked : blocked kept t ≡ Some bad = rw all stop in
-        let here : is_by t (BarItem bar) ≡ true = elim (cases_lt t (end_of bar)) [
-          inl early ↦ absurd (none_some (sym (not_blocked f kept (end_of bar) bar t next.1.ends early) ∙ is_blocked))
-          | inr over ↦ grind (arith, nat_tests)
-        ] in
-        ap (list_all (is_by t)) next.1.is
-        ∙ and_from (is_by t (BarItem bar)) (list_all (is_by t) (items_from f kept (end_of bar + 1))) here
-        (items_by f kept bad n (end_of bar + 1) t (omega (arith, e, next.1.since, next.1.until)) stop all)
-      )
+      | inl next ↦ (
+          let bar = next.0 in
+          let is_blocked : blocked kept t ≡ Some bad = rw all stop in
+          let here : is_by t (BarItem bar) ≡ true = elim (cases_lt t (end_of bar)) [
+            | inl early ↦ absurd (none_some (sym (not_blocked f kept (end_of bar) bar t next.1.ends early) ∙ is_blocked))
+            | inr over ↦ grind (arith, nat_tests)
+          ] in
+          ap (list_all (is_by t)) next.1.is
+          ∙ and_from (is_by t (BarItem bar)) (list_all (is_by t) (items_from f kept (end_of bar + 1))) here
+          (items_by f kept bad n (end_of bar + 1) t (omega (arith, e, next.1.since, next.1.until)) stop all)
+          )
       | inr last ↦ ap (list_all (is_by t)) last.is ∙ last_is_by t kept.stop
     ]
 

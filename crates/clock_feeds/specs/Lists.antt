@@ -1,5 +1,5 @@
 -- What the lists of all feeds have in common, and what is read off a list of items.
-use Rattle.std.specs.Prelude.{◌≡◌, ℕ, ◌+◌, ◌<◌, ◌≤◌, ◌==◌, ◌⊎◌, Bool, true, false, nat_le, if◌then◌else◌, ℤ, pos, ◌<ℤ◌, ◌≤ℤ◌, List, [], ◌∷◌, ◌++◌, map, filter_map, flat_map, Option, Some, None, option_map, unsigned_abs}
+use Rattle.std.specs.Prelude.{◌≡◌, ℕ, ◌+◌, ◌<◌, ◌≤◌, ◌==◌, Bool, true, nat_le, nat_lt, if◌then◌else◌, ℤ, pos, ◌<ℤ◌, ◌≤ℤ◌, List, [], ◌∷◌, ◌++◌, map, filter_map, flat_map, Option, Some, None, option_map, unsigned_abs}
 use Rattle.std.specs.List.{list_all, All}
 use Rattle.std.specs.Option.{option_or}
 use Rattle.lean_items.specs.declared.bad.Bad.{Bad}
@@ -90,6 +90,14 @@ is_by t (CoarseItem at row) = true
 is_by t (BadItem bad) = true
 is_by t Faulted = true
 is_by t End = true
+
+-- an item is no bar that ends at a moment or past it
+abbrev pub is_before : ℕ → Item → Bool
+is_before t (BarItem bar) = nat_lt (end_of bar) t
+is_before t (CoarseItem at row) = true
+is_before t (BadItem bad) = true
+is_before t Faulted = true
+is_before t End = true
 
 -- the malformed line of a list
 abbrev pub stop_in : List Item → Option Bad

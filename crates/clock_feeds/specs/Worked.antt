@@ -1,6 +1,6 @@
 -- The hours, folders and keys on which worked values are computed. 1970-01-01 was a Thursday, so day 1 is a Friday, and day 3
 -- a Sunday.
-use Rattle.std.specs.Prelude.{ℕ, ℤ, pos, Bool, true, false, List, [], ◌∷◌, ◌++◌, codes, ◌+◌, ◌-◌, map, flat_map, if◌then◌else◌, Option, Some, None}
+use Rattle.std.specs.Prelude.{ℕ, pos, true, false, List, [], ◌∷◌, ◌++◌, codes, ◌-◌, map, flat_map, if◌then◌else◌, Option, Some, None}
 use Rattle.std.specs.Str.{bytes_eq}
 use Rattle.lean_fixed.specs.declared.resolution.Resolution.{Resolution}
 use Rattle.lean_fixed.specs.declared.resolution.Resolution.TheVariants.{Hour}
@@ -10,7 +10,6 @@ use Rattle.lean_items.specs.declared.bad.Bad.{Bad}
 use Rattle.lean_items.specs.declared.bar.Bar.{Bar}
 use Rattle.lean_items.specs.declared.feed_key.FeedKey.{FeedKey}
 use Rattle.lean_items.specs.declared.feed_key.FeedKind.TheVariants.{Coarse, Equity}
-use Rattle.lean_items.specs.declared.reason.Reason.{Reason}
 use Rattle.lean_items.specs.declared.reason.Reason.TheVariants.{Fields}
 use Rattle.exchange_hours.specs.declared.entries.Segment.{Segment}
 use Rattle.exchange_hours.specs.Entries.{Entries}

@@ -1,7 +1,7 @@
 //! What is true of the kept rows, the bars and the lists of all feeds. Each law is the contract of a function that does
 //! nothing.
-ghost use Rattle.std.specs.Prelude.{◌≡◌, ℕ, ◌+◌, ◌<◌, ◌≤◌, ◌⊎◌, ◌^◌, false, ℤ, pos, List, [], ◌∷◌, map, length, Option, Some, None};
-ghost use Rattle.std.specs.List.{All};
+ghost use Rattle.std.specs.Prelude.{◌≡◌, ℕ, ◌+◌, ◌<◌, ◌≤◌, ◌⊎◌, ◌^◌, true, false, ℤ, ◌≤ℤ◌, pos, List, [], ◌∷◌, ◌++◌, map, length, Option, Some, None, option_to_list};
+ghost use Rattle.std.specs.List.{All, list_all};
 ghost use Rattle.lean_fixed.specs.declared.resolution.Resolution.{Resolution};
 ghost use Rattle.lean_fixed.specs.declared.time.Window.{Window};
 ghost use Rattle.lean_fixed.specs.Moments.{last_moment};
@@ -15,15 +15,16 @@ ghost use Rattle.lean_items.specs.declared.feed_key.FeedKind.TheVariants.{Coarse
 ghost use Rattle.lean_items.specs.declared.item.Item.{Item};
 ghost use Rattle.lean_items.specs.declared.item.Item.TheVariants.{Bar as BarItem, Bad as BadItem, End};
 ghost use Rattle.lean_items.specs.Fits.{Rises as ItemsRise};
+ghost use Rattle.lean_items.specs.Given.{IsRow};
 ghost use Rattle.exchange_hours.specs.Entries.{Entries};
 ghost use Rattle.exchange_hours.specs.Sessions.{LieInDays};
 ghost use Rattle.feed_paths.specs.Files.{from_1970};
 ghost use Rattle.clock_feeds.specs.Kept.{Kept};
 ghost use Rattle.clock_feeds.specs.Bars.{Filling, end_of, bar_at, blocked};
-ghost use Rattle.clock_feeds.specs.Feeds.{items_from, coarse_items, bars_of, coarse_of, rows, feed};
-ghost use Rattle.clock_feeds.specs.Slices.{Source, source, slice, refused, coarse_at};
+ghost use Rattle.clock_feeds.specs.Feeds.{last_item, items_from, coarse_items, bars_of, coarse_of, rows, feed};
+ghost use Rattle.clock_feeds.specs.Slices.{Source, source, bars_at, blocked_at, slice, refused, coarse_at};
 ghost use Rattle.clock_feeds.specs.Stands.{EndBy, Rises};
-ghost use Rattle.clock_feeds.specs.Lists.{IsSound, IsSoundRow, RowsRise, IsWhole, EndsWithin, IsNextBar, IsAtEnd, rows_ending, list_of, slice_in, refused_in, EndInWindows};
+ghost use Rattle.clock_feeds.specs.Lists.{IsSound, IsSoundRow, RowsRise, IsWhole, EndsWithin, IsNextBar, IsAtEnd, bar_ending, bars_ending, rows_ending, is_by, is_before, blocked_in, list_of, bars_in, bad_in, slice_in, refused_in, EndInWindows};
 
 /// The kept bars of a security end past the start of its feed, one past the other, and not past the end of the window, and
 /// their numbers are in their ranges.
@@ -151,6 +152,10 @@ pub fn lists_tell_slices<N>()
     ensures source { (name : N) (files : Files) (hours : Entries) (window : Window) (key : FeedKey)
         (symbol : List ℕ) (resolution : Resolution) → key.kind ≡ Equity symbol resolution
         → list_of (name, source files hours window key symbol resolution) ≡ (name, feed files hours window key) }
+    ensures bars { (source : N × Source) (t : ℕ) → EndBy source.1.filling.last source.1.kept.rows
+        → bars_at t source ≡ bars_in t (list_of source) }
+    ensures bad { (source : N × Source) (t : ℕ) → EndBy source.1.filling.last source.1.kept.rows
+        → blocked_at t source ≡ bad_in t (list_of source) }
     ensures slice { (sources : List (N × Source)) (t : ℕ) → EndInWindows sources
         → slice sources t ≡ slice_in (map list_of sources) t }
     ensures refused { (sources : List (N × Source)) (t : ℕ) → EndInWindows sources
@@ -160,4 +165,20 @@ pub fn lists_tell_slices<N>()
 /// The coarse rows that are known from a moment on can be read off the list of their feed.
 pub fn lists_tell_rows()
     ensures { (kept : Kept (ℕ × CoarseRow)) (t : ℕ) → coarse_at kept t ≡ rows_ending t (coarse_items kept) }
+{}
+
+/// Where a list that rises stands at a moment, some of its bars being past: the next one is all that may end then, and the
+/// list is blocked only once the last item alone is left.
+pub fn standing_lists()
+    ensures past { (z : ℤ) (front rest : List Item) (bar : Bar) → pos 0 ≤ℤ z
+        → ItemsRise z (front ++ BarItem bar ∷ rest) → list_all (is_before (end_of bar)) front ≡ true }
+    ensures bar { (z : ℤ) (t : ℕ) (front rest : List Item) (bar : Bar) → pos 0 ≤ℤ z
+        → ItemsRise z (front ++ BarItem bar ∷ rest) → list_all (is_before t) front ≡ true → t ≤ end_of bar
+        → bars_ending t (front ++ BarItem bar ∷ rest) ≡ option_to_list (bar_ending t (BarItem bar)) }
+    ensures last { (t : ℕ) (front : List Item) (stop : Option Bad) → list_all (is_before t) front ≡ true
+        → bars_ending t (front ++ last_item stop ∷ []) ≡ [] }
+    ensures open { (t : ℕ) (front rest : List Item) (bar : Bar) → t < end_of bar
+        → blocked_in (front ++ BarItem bar ∷ rest) t ≡ None }
+    ensures closed { (t : ℕ) (front : List Item) (stop : Option Bad) → All IsRow front
+        → list_all (is_by t) front ≡ true → blocked_in (front ++ last_item stop ∷ []) t ≡ stop }
 {}
