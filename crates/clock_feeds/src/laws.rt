@@ -49,7 +49,8 @@ pub fn kept_bars_are_sound()
 pub fn kept_rows_are_sound()
     ensures sound { (files : Files) (hours : Entries) (window : Window) (key : FeedKey)
         → IsWindow window → key.kind ≡ Coarse
-        → All (IsSoundRow key.start.0 (last_moment window)) (coarse_of files hours window key).rows }
+        → All (IsSoundRow key.start.0 (last_moment window))
+        (coarse_of files hours window key).rows }
     ensures rise { (files : Files) (hours : Entries) (window : Window) (key : FeedKey)
         → IsWindow window → key.kind ≡ Coarse
         → RowsRise 0 (coarse_of files hours window key).rows }
@@ -115,7 +116,8 @@ pub fn idle_feeds()
         → t ≤ after → bar_at f kept t ≡ None }
     ensures late { (f : Filling) (kept : Kept Bar) (t : ℕ) → EndBy f.last kept.rows
         → f.last < t → bar_at f kept t ≡ None }
-    ensures skipped { (f : Filling) (kept : Kept Bar) (from until : ℕ) → from ≤ until → until ≤ f.last + 1
+    ensures skipped { (f : Filling) (kept : Kept Bar) (from until : ℕ)
+        → from ≤ until → until ≤ f.last + 1
         → ((t : ℕ) → from ≤ t → t < until → bar_at f kept t ≡ None)
         → items_from f kept from ≡ items_from f kept until }
     ensures started { (f : Filling) (kept : Kept Bar) (after from : ℕ) → Rises after kept.rows
@@ -151,7 +153,8 @@ pub fn blocked_feeds()
 pub fn lists_tell_slices<N>()
     ensures source { (name : N) (files : Files) (hours : Entries) (window : Window) (key : FeedKey)
         (symbol : List ℕ) (resolution : Resolution) → key.kind ≡ Equity symbol resolution
-        → list_of (name, source files hours window key symbol resolution) ≡ (name, feed files hours window key) }
+        → list_of (name, source files hours window key symbol resolution)
+        ≡ (name, feed files hours window key) }
     ensures bars { (source : N × Source) (t : ℕ) → EndBy source.1.filling.last source.1.kept.rows
         → bars_at t source ≡ bars_in t (list_of source) }
     ensures bad { (source : N × Source) (t : ℕ) → EndBy source.1.filling.last source.1.kept.rows
@@ -164,18 +167,23 @@ pub fn lists_tell_slices<N>()
 
 /// The coarse rows that are known from a moment on can be read off the list of their feed.
 pub fn lists_tell_rows()
-    ensures { (kept : Kept (ℕ × CoarseRow)) (t : ℕ) → coarse_at kept t ≡ rows_ending t (coarse_items kept) }
+    ensures { (kept : Kept (ℕ × CoarseRow)) (t : ℕ)
+        → coarse_at kept t ≡ rows_ending t (coarse_items kept) }
 {}
 
 /// Where a list that rises stands at a moment, some of its bars being past: the next one is all that may end then, and the
 /// list is blocked only once the last item alone is left.
 pub fn standing_lists()
     ensures past { (z : ℤ) (front rest : List Item) (bar : Bar) → pos 0 ≤ℤ z
-        → ItemsRise z (front ++ BarItem bar ∷ rest) → list_all (is_before (end_of bar)) front ≡ true }
+        → ItemsRise z (front ++ BarItem bar ∷ rest)
+        → list_all (is_before (end_of bar)) front ≡ true }
     ensures bar { (z : ℤ) (t : ℕ) (front rest : List Item) (bar : Bar) → pos 0 ≤ℤ z
-        → ItemsRise z (front ++ BarItem bar ∷ rest) → list_all (is_before t) front ≡ true → t ≤ end_of bar
-        → bars_ending t (front ++ BarItem bar ∷ rest) ≡ option_to_list (bar_ending t (BarItem bar)) }
-    ensures last { (t : ℕ) (front : List Item) (stop : Option Bad) → list_all (is_before t) front ≡ true
+        → ItemsRise z (front ++ BarItem bar ∷ rest)
+        → list_all (is_before t) front ≡ true → t ≤ end_of bar
+        → bars_ending t (front ++ BarItem bar ∷ rest)
+        ≡ option_to_list (bar_ending t (BarItem bar)) }
+    ensures last { (t : ℕ) (front : List Item) (stop : Option Bad)
+        → list_all (is_before t) front ≡ true
         → bars_ending t (front ++ last_item stop ∷ []) ≡ [] }
     ensures open { (t : ℕ) (front rest : List Item) (bar : Bar) → t < end_of bar
         → blocked_in (front ++ BarItem bar ∷ rest) t ≡ None }

@@ -40,7 +40,8 @@ pub fn cuts()
         usual_hours (days 1 1) (spider Hour 1440) (codes "SPY") Hour
         ≡ record { rows = hour_bar 2100 5 ∷ []; stop = None } }
     ensures malformed { bars_of (everywhere (lines_of (
-        codes "19700102 10:00,5,5,5,5,7" ∷ codes "" ∷ codes "x" ∷ codes "19700102 12:00,6,6,6,6,7" ∷ [])))
+        codes "19700102 10:00,5,5,5,5,7" ∷ codes "" ∷ codes "x"
+        ∷ codes "19700102 12:00,6,6,6,6,7" ∷ [])))
         usual_hours (days 1 1) (spider Hour 1440) (codes "SPY") Hour
         ≡ record { rows = hour_bar 2100 5 ∷ []; stop = Some malformed } }
 {}
@@ -53,24 +54,26 @@ pub fn start_within_a_day()
         usual_hours (days 1 1) (spider Hour 2100) (codes "SPY") Hour).rows ≡ 2160 ∷ [] }
 {}
 
-/// The order of rows is that within one file: the first row of Tuesday starts earlier in its day than the last one of Friday.
+/// The order of rows is that within one file: the first row of Tuesday starts earlier in its day than the last one of
+/// Friday.
 pub fn order_in_a_file()
-    ensures rows { ends (bars_of two_days usual_hours (days 1 5) (spider Minute 1440) (codes "SPY") Minute).rows
-        ≡ 2041 ∷ 7771 ∷ [] }
-    ensures stop { (bars_of two_days usual_hours (days 1 5) (spider Minute 1440) (codes "SPY") Minute).stop
-        ≡ Some (record { file = 5; line = 2; reason = Order }) }
+    ensures rows { ends (bars_of two_days usual_hours
+        (days 1 5) (spider Minute 1440) (codes "SPY") Minute).rows ≡ 2041 ∷ 7771 ∷ [] }
+    ensures stop { (bars_of two_days usual_hours
+        (days 1 5) (spider Minute 1440) (codes "SPY") Minute).stop ≡ Some (record { file = 5; line = 2; reason = Order }) }
 {}
 
 /// The sessions of Sunday evening and of Monday meet at midnight: the bars on both sides of it are in session.
 pub fn sessions_that_meet()
-    ensures { ends (bars_of two_nights night_hours (days 3 4) (spider Minute 4320) (codes "SPY") Minute).rows
-        ≡ 5760 ∷ 5761 ∷ [] }
+    ensures { ends (bars_of two_nights night_hours
+        (days 3 4) (spider Minute 4320) (codes "SPY") Minute).rows ≡ 5760 ∷ 5761 ∷ [] }
 {}
 
 /// The coarse file of a Sunday is known from 00:00 of Monday on. A row whose symbol is none is passed over.
 pub fn coarse_of_a_sunday()
     ensures rows { map (λ t. map (λ row. row.symbol)
-        (coarse_at (coarse_of sunday usual_hours (days 4 5) (universe 5759)) t)) (4320 ∷ 5759 ∷ 5760 ∷ [])
+        (coarse_at (coarse_of sunday usual_hours (days 4 5) (universe 5759)) t))
+        (4320 ∷ 5759 ∷ 5760 ∷ [])
         ≡ [] ∷ [] ∷ (codes "SPY" ∷ []) ∷ [] }
     ensures stop { (coarse_of sunday usual_hours (days 4 5) (universe 5759)).stop
         ≡ Some (record { file = 3; line = 3; reason = Fields }) }
@@ -78,7 +81,8 @@ pub fn coarse_of_a_sunday()
 
 /// Two rows are filled at the grid's ends past each of them: up to the closing, or not behind the malformed line.
 pub fn bars_of_a_day()
-    ensures filled { map (bar_at by_hours (two_bars None)) (2040 ∷ 2100 ∷ 2160 ∷ 2190 ∷ 2220 ∷ 2400 ∷ 2460 ∷ [])
+    ensures filled { map (bar_at by_hours (two_bars None))
+        (2040 ∷ 2100 ∷ 2160 ∷ 2190 ∷ 2220 ∷ 2400 ∷ 2460 ∷ [])
         ≡ None ∷ Some (hour_bar 2100 5) ∷ Some (filled_bar 2160 5) ∷ None ∷ Some (hour_bar 2220 6)
         ∷ Some (filled_bar 2400 6) ∷ None ∷ [] }
     ensures malformed { map (bar_at by_hours (two_bars (Some malformed))) (2160 ∷ 2220 ∷ 2280 ∷ [])
@@ -91,7 +95,8 @@ pub fn bars_of_a_day()
 pub fn items_of_a_day()
     ensures filled { items_from by_hours (two_bars None) 2040
         ≡ BarItem (hour_bar 2100 5) ∷ BarItem (filled_bar 2160 5) ∷ BarItem (hour_bar 2220 6)
-        ∷ BarItem (filled_bar 2280 6) ∷ BarItem (filled_bar 2340 6) ∷ BarItem (filled_bar 2400 6) ∷ End ∷ [] }
+        ∷ BarItem (filled_bar 2280 6) ∷ BarItem (filled_bar 2340 6) ∷ BarItem (filled_bar 2400 6)
+        ∷ End ∷ [] }
     ensures malformed { items_from by_hours (two_bars (Some malformed)) 2040
         ≡ BarItem (hour_bar 2100 5) ∷ BarItem (filled_bar 2160 5) ∷ BarItem (hour_bar 2220 6)
         ∷ BadItem malformed ∷ [] }
