@@ -33,7 +33,8 @@ pub fn days_and_a_holiday()
         usual_hours (days 1 5) (spider Daily 1440) (codes "SPY") Daily).rows ≡ 2400 ∷ 8160 ∷ [] }
 {}
 
-/// A malformed line behind the first row past the window is never seen; one before it ends the feed.
+/// A malformed line behind the first row past the window is never seen; one before it ends the feed. A row that ends at
+/// 24:00 of the window's last day is none past it.
 pub fn cuts()
     ensures past { bars_of (everywhere (lines_of (
         codes "19700102 10:00,5,5,5,5,7" ∷ codes "19700106 10:00,5,5,5,5,7" ∷ codes "x" ∷ [])))
@@ -44,6 +45,9 @@ pub fn cuts()
         ∷ codes "19700102 12:00,6,6,6,6,7" ∷ [])))
         usual_hours (days 1 1) (spider Hour 1440) (codes "SPY") Hour
         ≡ record { rows = hour_bar 2100 5 ∷ []; stop = Some malformed } }
+    ensures last { ends (bars_of (everywhere (lines_of (
+        codes "19700104 23:00,5,5,5,5,7" ∷ codes "19700105 00:00,5,5,5,5,7" ∷ [])))
+        night_hours (days 3 3) (spider Hour 4320) (codes "SPY") Hour).rows ≡ 5760 ∷ [] }
 {}
 
 /// A feed gives what ends past its start, be that within a day.

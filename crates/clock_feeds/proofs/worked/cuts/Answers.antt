@@ -13,3 +13,7 @@ returns-clause-past c = refl
 pub returns-clause-malformed : goal.returns-clause-malformed
 unfolding bars_of equity_raw dated_row session days_from_civil day_count days_of_years days_of_months
 returns-clause-malformed c = refl
+
+pub returns-clause-last : goal.returns-clause-last
+unfolding bars_of equity_raw dated_row session days_from_civil day_count days_of_years days_of_months
+returns-clause-last c = refl
