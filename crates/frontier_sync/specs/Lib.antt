@@ -1,0 +1,3 @@
+pub mod Heads
+pub mod Slices
+pub mod Rising
