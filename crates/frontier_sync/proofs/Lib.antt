@@ -1,0 +1,6 @@
+pub mod TakenLemmas
+pub mod PlaceLemmas
+pub mod FrontierLemmas
+pub mod RefillLemmas
+pub mod SliceLemmas
+pub mod RisingLemmas

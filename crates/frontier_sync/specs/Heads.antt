@@ -1,5 +1,5 @@
 -- The heads of feeds: of each feed the item that was taken of it last, and was not passed on yet.
-use Rattle.std.specs.Prelude.{◌≡◌, ℕ, ◌<◌, ◌==◌, nat_lt, ℤ, int_lt, if◌then◌else◌, ◌<ℤ◌, ◌≤ℤ◌, Bool, true, false, not, List, [], ◌∷◌, ◌++◌, Option, Some, None}
+use Rattle.std.specs.Prelude.{◌≡◌, ℕ, ◌<◌, ◌==◌, nat_lt, ℤ, int_lt, if◌then◌else◌, ◌<ℤ◌, ◌≤ℤ◌, Bool, true, false, not, List, length, [], ◌∷◌, ◌++◌, Option, Some, None}
 use Rattle.std.specs.List.{All, Any, filter}
 use Rattle.lean_fixed.specs.declared.time.Moment.{Moment}
 use Rattle.lean_items.specs.declared.arrival.Arrival.{Arrival}
@@ -25,6 +25,12 @@ put a heads =
 -- without the head of a feed
 abbrev pub without : ℕ → List Arrival → List Arrival
 without feed heads = filter (λ a. not (a.feed.0 == feed)) heads
+
+-- the head of a feed stands at a place, and behind it only those of higher feeds
+abbrev pub StandsAt : List Arrival → ℕ → ℕ → Type 0
+StandsAt heads place feed =
+    (front back : List Arrival) × (a : Arrival) × (heads ≡ front ++ a ∷ back) × (length front ≡ place)
+    × (a.feed.0 ≡ feed) × All (λ b. feed < b.feed.0) back
 
 -- a malformed line or a failed read
 abbrev pub stops : Item → Bool

@@ -1,7 +1,7 @@
 //! Where the head of a feed stands among heads with rising feed numbers.
-ghost use Rattle.std.specs.Prelude.{◌≡◌, ◌<◌, ◌≤◌, length, take, drop, OnOk, OnErr};
+ghost use Rattle.std.specs.Prelude.{◌≡◌, ◌<◌, ◌≤◌, true, false, length, take, drop, OnOk, OnErr};
 ghost use Rattle.std.specs.List.{All};
-ghost use Rattle.frontier_sync.specs.Heads.{put, without, AreRising};
+ghost use Rattle.frontier_sync.specs.Heads.{put, without, AreRising, StandsAt};
 
 use lean_fixed::NoMemory;
 use lean_items::{Arrival, FeedNo};
@@ -13,7 +13,7 @@ pub(crate) fn put(heads: &mut Vec<Arrival>, head: Arrival) -> Result<(), NoMemor
     ensures err { OnErr result (heads.new.items ≡ heads.old.items) }
 {
     let place = place_of(heads, head.feed);
-    if place < heads.len() && heads[place].feed == head.feed {
+    if stands_at(heads, place, head.feed) {
         heads[place] = head;
     } else {
         heads.insert(place, head)?;
@@ -27,7 +27,7 @@ pub(crate) fn forget(heads: &mut Vec<Arrival>, feed: FeedNo)
     ensures { heads.new.items ≡ without feed.0 heads.old.items }
 {
     let place = place_of(heads, feed);
-    if place < heads.len() && heads[place].feed == feed {
+    if stands_at(heads, place, feed) {
         let _ = heads.remove(place);
     }
 }
@@ -45,4 +45,14 @@ fn place_of(heads: &[Arrival], feed: FeedNo) -> usize
         }
     }
     heads.len()
+}
+
+// Whether the head of a feed stands at the place at which it would stand.
+fn stands_at(heads: &[Arrival], place: usize, feed: FeedNo) -> bool
+    requires rising { AreRising heads.now }
+    requires upper { All (λ a. feed.0 ≤ a.feed.0) (drop place heads.now) }
+    ensures there { result ≡ true → StandsAt heads.now place feed.0 }
+    ensures absent { result ≡ false → All (λ a. feed.0 < a.feed.0) (drop place heads.now) }
+{
+    place < heads.len() && heads[place].feed.0 == feed.0
 }
