@@ -1,9 +1,9 @@
 -- Heads with rising feed numbers, and where a head is put among them.
-use Rattle.std.proofs.Common.{◌≡◌, ◌≢◌, ℕ, suc, zero, ◌+◌, ◌<◌, ◌≤◌, ◌==◌, Bool, true, false, not, cond, ltb, List, [], ◌∷◌, ◌++◌, length, take, drop, get_or, set, Result, Ok, Err, OnOk, OnErr, refl, sym, ap, ◌∙◌, subst, arith, drop-cons, length-take, append_assoc, append-nil}
+use Rattle.std.proofs.Common.{◌≡◌, ◌≢◌, ℕ, suc, zero, ◌<◌, ◌≤◌, ◌==◌, Bool, true, false, not, cond, ltb, List, [], ◌∷◌, ◌++◌, length, take, drop, get_or, set, Result, Ok, Err, OnOk, OnErr, refl, sym, ap, ◌∙◌, subst, arith, drop-cons, length-take, append-nil}
 use Rattle.std.specs.List.{All, filter, remove}
 use Rattle.std.proofs.lemmas.Bool.Decides.{nat_tests}
 use Rattle.std.proofs.lemmas.List.{set_at, take-append-drop, drop_all}
-use Rattle.std.proofs.lemmas.List.Elements.{All-nil, All-cons, All-head, All-tail, All-append, All-filter, All-weaker, All-drop, filter-append, filter_passes}
+use Rattle.std.proofs.lemmas.List.Elements.{All-nil, All-cons, All-head, All-tail, All-append, All-filter, All-weaker, filter-append, filter_passes}
 use Rattle.lean_fixed.specs.declared.memory.NoMemory.{NoMemory}
 use Rattle.lean_items.specs.declared.arrival.Arrival.{Arrival}
 use Rattle.frontier_sync.specs.Heads.{AreRising, put, without, StandsAt}
@@ -57,11 +57,11 @@ put-between h front same back lower equal upper =
     let b2 = kept-none q same (All-weaker (λ a. a.feed.0 ≡ f) (λ b. q b ≡ false) (λ a e. more-false f a (omega arith)) same equal) in
     let b3 = kept-all q back (All-weaker (Above f) (λ b. q b ≡ true) (more-true f) back upper) in
     let low : filter p (front ++ (same ++ back)) ≡ front =
-        filter-append p front (same ++ back) ∙ ap (λ xs. filter p front ++ xs) (filter-append p same back)
-        ∙ rw (a1, a2, a3) (append-nil front) in
+    filter-append p front (same ++ back) ∙ ap (λ xs. filter p front ++ xs) (filter-append p same back)
+    ∙ rw (a1, a2, a3) (append-nil front) in
     let high : filter q (front ++ (same ++ back)) ≡ back =
-        filter-append q front (same ++ back) ∙ ap (λ xs. filter q front ++ xs) (filter-append q same back)
-        ∙ rw (b1, b2, b3) refl in
+    filter-append q front (same ++ back) ∙ ap (λ xs. filter q front ++ xs) (filter-append q same back)
+    ∙ rw (b1, b2, b3) refl in
     rw (low, high) refl
 
 pub without-between : (f : ℕ) (front same back : List Arrival) → All (Below f) front → All (λ a. a.feed.0 ≡ f) same → All (Above f) back
@@ -130,7 +130,7 @@ pub from-place : (f i : ℕ) (heads : List Arrival) (d : Arrival) → AreRising 
 from-place f i heads d r within h =
     let rest = drop-cons heads i d within in
     subst (λ xs. All (From f) xs) (sym rest)
-      (from-first f (get_or heads i d) (drop (suc i) heads) (subst (λ xs. AreRising xs) rest (rising-drop i heads r)) h)
+    (from-first f (get_or heads i d) (drop (suc i) heads) (subst (λ xs. AreRising xs) rest (rising-drop i heads r)) h)
 
 pub rising-filter : (p : Arrival → Bool) (heads : List Arrival) → AreRising heads → AreRising (filter p heads)
 rising-filter p [] r = tt
@@ -144,9 +144,10 @@ rising-filter p (a ∷ heads) r =
 rising-append : (f : ℕ) (xs ys : List Arrival) → AreRising xs → AreRising ys → All (Below f) xs → All (From f) ys → AreRising (xs ++ ys)
 rising-append f [] ys rx ry lower upper = ry
 rising-append f (x ∷ xs) ys rx ry lower upper =
-    let under : x.feed.0 < f = All-head (Below f) x xs lower in
-    (All-append (λ b. x.feed.0 < b.feed.0) xs ys rx.0 (All-weaker (From f) (λ b. x.feed.0 < b.feed.0) (λ b h. omega arith) ys upper),
-      rising-append f xs ys rx.1 ry (All-tail (Below f) x xs lower) upper)
+    let under : x.feed.0 < f = All-head (Below f) x xs lower in (
+      All-append (λ b. x.feed.0 < b.feed.0) xs ys rx.0 (All-weaker (From f) (λ b. x.feed.0 < b.feed.0) (λ b h. omega arith) ys upper),
+      rising-append f xs ys rx.1 ry (All-tail (Below f) x xs lower) upper,
+    )
 
 pub rising-put : (h : Arrival) (heads : List Arrival) → AreRising heads → AreRising (put h heads)
 rising-put h heads r =
@@ -155,10 +156,10 @@ rising-put h heads r =
     let q : Arrival → Bool = λ b. ltb f b.feed.0 in
     let above : All (Above f) (filter q heads) = All-weaker (λ b. q b ≡ true) (Above f) (λ b e. grind (arith, nat_tests)) (filter q heads) (filter_passes q heads) in
     rising-append f (filter p heads) (h ∷ filter q heads)
-      (rising-filter p heads r)
-      (above, rising-filter q heads r)
-      (All-weaker (λ b. p b ≡ true) (Below f) (λ b e. grind (arith, nat_tests)) (filter p heads) (filter_passes p heads))
-      (All-cons (From f) h (filter q heads) (omega arith) (All-weaker (Above f) (From f) (λ b e. omega arith) (filter q heads) above))
+    (rising-filter p heads r)
+    (above, rising-filter q heads r)
+    (All-weaker (λ b. p b ≡ true) (Below f) (λ b e. grind (arith, nat_tests)) (filter p heads) (filter_passes p heads))
+    (All-cons (From f) h (filter q heads) (omega arith) (All-weaker (Above f) (From f) (λ b e. omega arith) (filter q heads) above))
 
 pub rising-set : (h : Arrival) (old new : List Arrival) (r : Result (Unit {0}) NoMemory) → AreRising old → OnOk r (new ≡ put h old) → OnErr r (new ≡ old) → AreRising new
 rising-set h old new (Ok u) rising ok err = subst (λ xs. AreRising xs) (sym ok) (rising-put h old rising)
@@ -168,9 +169,15 @@ pub there : (f i : ℕ) (heads : List Arrival) (d : Arrival) → AreRising heads
 there f i heads d r within same =
     let rest = drop-cons heads i d within in
     let rising : AreRising (get_or heads i d ∷ drop (suc i) heads) = subst (λ xs. AreRising xs) rest (rising-drop i heads r) in
-    let size : length (take i heads) ≡ i = omega (arith, length-take i heads) in
-    (take i heads, drop (suc i) heads, get_or heads i d, sym (take-append-drop i heads) ∙ ap (λ xs. take i heads ++ xs) rest,
-      size, same, All-weaker (λ b. (get_or heads i d).feed.0 < b.feed.0) (Above f) (λ b l. omega arith) (drop (suc i) heads) rising.0)
+    let size : length (take i heads) ≡ i = omega (arith, length-take i heads) in (
+      take i heads,
+      drop (suc i) heads,
+      get_or heads i d,
+      sym (take-append-drop i heads) ∙ ap (λ xs. take i heads ++ xs) rest,
+      size,
+      same,
+      All-weaker (λ b. (get_or heads i d).feed.0 < b.feed.0) (Above f) (λ b l. omega arith) (drop (suc i) heads) rising.0,
+    )
 
 pub absent : (f i : ℕ) (heads : List Arrival) (d : Arrival) → AreRising heads → All (From f) (drop i heads) → i < length heads → (get_or heads i d).feed.0 ≢ f
     → All (Above f) (drop i heads)

@@ -1,9 +1,9 @@
 -- The items that are taken behind a head.
-use Rattle.std.proofs.Common.{◌≡◌, ◌≢◌, ℕ, ◌==◌, Bool, true, false, not, cond, ◌&&◌, ℤ, ◌≤ℤ◌, ◌<ℤ◌, List, [], ◌∷◌, ◌++◌, map, Option, Some, None, refl, sym, ap, ◌∙◌, subst, arith, append_assoc, append-nil, inl, inr}
+use Rattle.std.proofs.Common.{◌≡◌, ◌≢◌, ℕ, ◌==◌, Bool, true, false, not, cond, ℤ, ◌≤ℤ◌, ◌<ℤ◌, List, [], ◌∷◌, ◌++◌, map, refl, sym, ap, ◌∙◌, arith, append_assoc, append-nil}
 use Rattle.std.specs.Prelude.{int_lt, int_le}
 use Rattle.std.specs.List.{All, filter}
 use Rattle.std.specs.Ordering.{int_eq}
-use Rattle.std.proofs.lemmas.Bool.{cases_Bool, true≢false, false≢true, and_parts}
+use Rattle.std.proofs.lemmas.Bool.{true≢false, false≢true, and_parts}
 use Rattle.std.proofs.lemmas.Bool.Decides.{Decides-int_eq, nat_tests}
 use Rattle.std.proofs.lemmas.Int.{ints}
 use Rattle.std.proofs.lemmas.List.{map-append}
@@ -97,12 +97,14 @@ pub sofar-end : (at : ℤ) (head : Item) (taken given : List Item) (next : Item)
     → Refilled at head taken next × (given_of at head taken ≡ given)
 sofar-end at head taken given next s other =
     let is : given_of at head taken ≡ given =
-        ap (filter (ends_at at)) s.kept ∙ filter-append (ends_at at) given (next ∷ []) ∙ rw (s.now, other) (append-nil given) in
-    (record {
+    ap (filter (ends_at at)) s.kept ∙ filter-append (ends_at at) given (next ∷ []) ∙ rw (s.now, other) (append-nil given) in (
+      record {
         kept = s.kept ∙ ap (λ xs. xs ++ next ∷ []) (sym is);
         idle = λ o. (s.idle o).0;
         later = λ e. after-from at next other (s.from e);
-      }, is)
+      },
+      is,
+    )
 
 -- a row was taken of a feed that was open, and is open still
 pub open-still : (first now next : ℕ → Bool) (feed : ℕ) (item : Item) → IsRow item → first feed ≡ true → ((n : ℕ) → now n ≡ first n)

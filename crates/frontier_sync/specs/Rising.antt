@@ -5,7 +5,7 @@ use Rattle.lean_items.specs.declared.item.Item.{Item}
 use Rattle.lean_items.specs.Fits.{Rises}
 use Rattle.lean_items.specs.Given.{is_last, end_of}
 use Rattle.frontier_sync.specs.Heads.{EndsFrom}
-use Rattle.frontier_sync.specs.Slices.{ends_at, given_of, Refilled}
+use Rattle.frontier_sync.specs.Slices.{ends_at, given_of}
 
 -- nothing stands behind a malformed line, a failed read or the end
 abbrev pub EndsOnce : List Item → Type 0

@@ -8,6 +8,7 @@ use lean_fixed::{Moment, Price, Shares};
 use lean_items::{Bar, CoarseRow, Item};
 
 const LEAST_MOMENT: i64 = -10_000;
+
 const LAST_MOMENT: i64 = 121_000_000;
 
 const MOST_DOLLARS: i64 = 1_000_000_000_000_000;

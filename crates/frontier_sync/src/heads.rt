@@ -1,7 +1,6 @@
 ghost use Rattle.std.specs.Prelude.{◌≡◌, ℕ, ◌≤◌, List, ◌++◌, [], OnOk, OnErr};
 ghost use Rattle.std.specs.List.{find};
 ghost use Rattle.lean_items.specs.declared.item.Item.{Item};
-
 ghost use Rattle.frontier_sync.specs.Heads.{arrival, put, without, stops, IsFrontier, AreOpen};
 ghost use Rattle.frontier_sync.specs.Slices.{IsSliced, slice_of, TakesOfHeads, MovesOn};
 
@@ -84,7 +83,7 @@ impl Heads {
         requires { AreOpen (P.is_open pool.old) self.old }
         ensures took { (taken : ℕ → List Item)
             × OnOk result (IsSliced at.0 taken self.old self.new
-                × (out.new.items ≡ out.old.items ++ slice_of at.0 taken self.old))
+            × (out.new.items ≡ out.old.items ++ slice_of at.0 taken self.old))
             × MovesOn (P.stands pool.old) (P.stands pool.new) taken
             × TakesOfHeads self.old taken }
         ensures opened { OnOk result (AreOpen (P.is_open pool.new) self.new) }

@@ -24,7 +24,7 @@ pub(crate) fn refill_all<P: Pool>(
     ensures rising { AreRising heads.new.items }
     ensures took { (taken : ℕ → List Item)
         × OnOk result (IsSliced at.0 taken heads.old.items heads.new.items
-            × (out.new.items ≡ out.old.items ++ slice_of at.0 taken heads.old.items))
+        × (out.new.items ≡ out.old.items ++ slice_of at.0 taken heads.old.items))
         × MovesOn (P.stands pool.old) (P.stands pool.new) taken
         × TakesOfHeads heads.old.items taken }
     ensures opened { OnOk result (AreOpen (P.is_open pool.new) heads.new.items) }
@@ -52,8 +52,8 @@ fn refill<P: Pool>(
     ensures feed { head.new.feed ≡ head.old.feed }
     ensures took { (taken : List Item)
         × OnOk result (Refilled at.0 head.old.item taken head.new.item
-            × (out.new.items ≡ out.old.items
-                ++ map (arrival head.old.feed) (given_of at.0 head.old.item taken)))
+        × (out.new.items ≡ out.old.items
+        ++ map (arrival head.old.feed) (given_of at.0 head.old.item taken)))
         × TakesOfOne (P.stands pool.old) (P.stands pool.new) head.old.feed.0 taken }
     ensures opened { IsRow head.new.item → P.is_open pool.new head.old.feed.0 ≡ true }
     ensures others { (n : ℕ) → n ≢ head.old.feed.0 → P.is_open pool.new n ≡ P.is_open pool.old n }

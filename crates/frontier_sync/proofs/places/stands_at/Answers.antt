@@ -1,4 +1,4 @@
-use Rattle.std.proofs.Common.{◌≡◌, ◌==◌, true, false, ap, sym, ◌∙◌, arith}
+use Rattle.std.proofs.Common.{arith}
 use Rattle.std.proofs.lemmas.Bool.Decides.{nat_tests}
 use Rattle.frontier_sync.proofs.PlaceLemmas.{there, absent}
 use Rattle.frontier_sync.proofs.places.stands_at.Goals as goal
