@@ -4,3 +4,5 @@ pub mod FrontierLemmas
 pub mod RefillLemmas
 pub mod SliceLemmas
 pub mod RisingLemmas
+pub mod ListLemmas
+pub mod StandLemmas

@@ -56,7 +56,7 @@ ends-from at after (Bad bad) row from = absurd (true≢false row)
 ends-from at after Faulted row from = absurd (true≢false row)
 ends-from at after End row from = absurd (true≢false row)
 
-after-none : (at : ℤ) (item : Item) → EndsAfter at (end_of item) → ends_at at item ≡ false
+pub after-none : (at : ℤ) (item : Item) → EndsAfter at (end_of item) → ends_at at item ≡ false
 after-none at (Bar bar) h = apart at bar.end.0 h
   where
     apart : (t e : ℤ) → t <ℤ e → int_eq e t ≡ false
@@ -76,7 +76,7 @@ after-none at Faulted h = refl
 after-none at End h = refl
 
 -- of items that rise from past a moment none ends there
-none-ends : (at after : ℤ) (items : List Item) → at <ℤ after → Rises after items → filter (ends_at at) items ≡ []
+pub none-ends : (at after : ℤ) (items : List Item) → at <ℤ after → Rises after items → filter (ends_at at) items ≡ []
 none-ends at after [] h r = refl
 none-ends at after (item ∷ items) h r =
     let ends : EndsAfter at (end_of item) × (at <ℤ end_or after item) = later at after item h r.0 in
@@ -94,7 +94,7 @@ none-ends at after (item ∷ items) h r =
     later at after End h f = (tt, h)
 
 -- behind a next head nothing ends at the moment, or it is the last item
-rest-none : (at after : ℤ) (next : Item) (rest : List Item) → Rises after (next ∷ rest) → EndsOnce (next ∷ rest) → EndsAfter at (end_of next)
+pub rest-none : (at after : ℤ) (next : Item) (rest : List Item) → Rises after (next ∷ rest) → EndsOnce (next ∷ rest) → EndsAfter at (end_of next)
     → filter (ends_at at) rest ≡ []
 rest-none at after (Bar bar) rest r once later = none-ends at bar.end.0 rest later r.1
 rest-none at after (Coarse from row) rest r once later = none-ends at from.0 rest later r.1
@@ -103,11 +103,11 @@ rest-none at after Faulted rest r once later = ap (filter (ends_at at)) (once.0 
 rest-none at after End rest r once later = ap (filter (ends_at at)) (once.0 refl)
 
 -- the part of a list behind some items
-rises-behind : (after : ℤ) (xs ys : List Item) → Rises after (xs ++ ys) → (late : ℤ) × Rises late ys
+pub rises-behind : (after : ℤ) (xs ys : List Item) → Rises after (xs ++ ys) → (late : ℤ) × Rises late ys
 rises-behind after [] ys r = (after, r)
 rises-behind after (x ∷ xs) ys r = rises-behind (end_or after x) xs ys r.1
 
-once-behind : (xs ys : List Item) → EndsOnce (xs ++ ys) → EndsOnce ys
+pub once-behind : (xs ys : List Item) → EndsOnce (xs ++ ys) → EndsOnce ys
 once-behind [] ys o = o
 once-behind (x ∷ xs) ys o = once-behind xs ys o.1
 

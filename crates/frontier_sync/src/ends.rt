@@ -1,13 +1,26 @@
 //! The ends of heads, and which heads stop the merge.
 ghost use Rattle.std.specs.Prelude.{◌≡◌, option_map};
+ghost use Rattle.std.specs.List.{find};
 ghost use Rattle.lean_items.specs.Given.{end_of};
 ghost use Rattle.frontier_sync.specs.Heads.{stops, IsFrontier, earlier};
 
 use lean_fixed::Moment;
 use lean_items::{Arrival, Item};
 
+// The first head that is a malformed line or a failed read.
+pub(crate) fn first_stop(heads: &[Arrival]) -> Option<Arrival>
+    ensures { result ≡ find (λ a. stops a.item) heads.now }
+{
+    for head in heads {
+        if stops(&head.item) {
+            return Some(*head);
+        }
+    }
+    None
+}
+
 // Whether an item is a malformed line or a failed read.
-pub(crate) fn stops(item: &Item) -> bool
+fn stops(item: &Item) -> bool
     ensures { result ≡ stops item.now }
 {
     match item {

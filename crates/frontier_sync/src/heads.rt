@@ -1,10 +1,10 @@
 ghost use Rattle.std.specs.Prelude.{◌≡◌, ℕ, ◌≤◌, List, ◌++◌, [], OnOk, OnErr};
 ghost use Rattle.std.specs.List.{find};
 ghost use Rattle.lean_items.specs.declared.item.Item.{Item};
-ghost use Rattle.frontier_sync.specs.Heads.{arrival, put, without, stops, IsFrontier, AreOpen};
+ghost use Rattle.frontier_sync.specs.Heads.{arrival, put, without, stops, IsFrontier, AreOpen, AreRising};
 ghost use Rattle.frontier_sync.specs.Slices.{IsSliced, slice_of, TakesOfHeads, MovesOn};
 
-use crate::ends::{least_end, stops};
+use crate::ends::{first_stop, least_end};
 use crate::places::{forget, put};
 use crate::refill::refill_all;
 use lean_fixed::{Moment, NoMemory};
@@ -59,9 +59,10 @@ impl Heads {
 
     /// The malformed line or failed read of the least feed whose head is one. `None` exactly where no head is.
     pub fn stop(&self) -> Option<Arrival>
-        ensures { result ≡ find (λ a. stops a.item) self.now }
+        ensures first { result ≡ find (λ a. stops a.item) self.now }
+        ensures rising { AreRising self.now }
     {
-        self.heads.iter().copied().find(|head| stops(&head.item))
+        first_stop(&self.heads)
     }
 
     /// The least end of the heads that are a bar or a coarse row. `None` exactly where no head is.
