@@ -1,0 +1,62 @@
+use Rattle.std.proofs.Common.{◌≡◌, ◌<◌, [], length, get_or, refl, sym, ap, ◌∙◌, arith, append-nil}
+use Rattle.std.proofs.lemmas.List.{length-set}
+use Rattle.lean_items.specs.declared.arrival.Arrival.{Arrival}
+use Rattle.frontier_sync.proofs.SliceLemmas.{sliced-none, sliced-more, sliced-short, sliced-all, rising-written, open-written, front-more, ok-of-err}
+use Rattle.frontier_sync.proofs.refill.refill_all.Goals as goal
+
+pub heads-init : goal.heads-init
+heads-init g c = record {
+  sliced = sliced-none (g.P.Pool.stands c.args.pool.now) c.args.at.0 c.args.heads.now.items c.args.out.now.items;
+  size = sym (c.len-place-end.ensures ∙ c.args.heads.now.ok.0);
+  rising = c.requires.rising;
+  opened = c.requires.opened;
+  front = ([], sym (append-nil c.args.out.now.items));
+  added = refl;
+  lists = refl;
+  grows = omega arith;
+  place_kept = refl;
+}
+
+pub returns-in_err-refill-clause-rising : goal.returns-in_err-refill-clause-rising
+returns-in_err-refill-clause-rising g c =
+    let head : Arrival = c.index_mut-head.result.now in
+    let within : c.heads.place < length c.heads.heads.items = omega (arith, c.heads-test.true, c.heads.invariant.size) in
+    let read : get_or c.heads.heads.items c.heads.place head ≡ head = sym c.index_mut-head.ensures.value in
+    rising-written c.heads.heads.items c.heads.place head c.refill.new.head c.heads.invariant.rising within (c.refill.ensures.feed ∙ ap (λ (a : Arrival). a.feed) (sym read))
+
+pub returns-in_err-refill-clause-took : goal.returns-in_err-refill-clause-took
+returns-in_err-refill-clause-took g c =
+    let head : Arrival = c.index_mut-head.result.now in
+    let within : c.heads.place < length c.heads.heads.items = omega (arith, c.heads-test.true, c.heads.invariant.size) in
+    let read : get_or c.heads.heads.items c.heads.place head ≡ head = sym c.index_mut-head.ensures.value in
+    let (items, ok, takes) = c.refill.ensures.took in
+    let (taken, moves, idle) = sliced-short (g.P.Pool.stands c.args.pool.now) (g.P.Pool.stands c.heads.pool) (g.P.Pool.stands c.refill.new.pool) c.args.at.0 c.heads.place
+    c.args.heads.now.items c.heads.heads.items c.args.out.now.items c.heads.out.items head items c.heads.invariant.sliced c.requires.rising within read takes in
+    (taken, ok-of-err c.from_residual.result _ c.from_residual.ensures.0, moves, idle)
+
+pub heads-preserved : goal.heads-preserved
+heads-preserved g c =
+    let head : Arrival = c.index_mut-head.result.now in
+    let within : c.heads.place < length c.heads.heads.items = omega (arith, c.heads-test.true, c.heads.invariant.size) in
+    let read : get_or c.heads.heads.items c.heads.place head ≡ head = sym c.index_mut-head.ensures.value in
+    let (items, ok, takes) = c.in_ok-refill.ensures.took in
+    let inv = c.heads.invariant in
+    record {
+      sliced = sliced-more (g.P.Pool.stands c.args.pool.now) (g.P.Pool.stands c.heads.pool) (g.P.Pool.stands c.refill.new.pool) c.args.at.0 c.heads.place
+          c.args.heads.now.items c.heads.heads.items c.args.out.now.items c.heads.out.items c.refill.new.out.items head c.refill.new.head items inv.sliced c.requires.rising
+          within read c.refill.ensures.feed ok.0 ok.1 takes;
+      size = length-set c.heads.heads.items c.heads.place c.refill.new.head ∙ inv.size;
+      rising = rising-written c.heads.heads.items c.heads.place head c.refill.new.head inv.rising within (c.refill.ensures.feed ∙ ap (λ (a : Arrival). a.feed) (sym read));
+      opened = open-written (g.P.Pool.is_open c.heads.pool) (g.P.Pool.is_open c.refill.new.pool) c.heads.heads.items c.heads.place head c.refill.new.head inv.opened
+          inv.rising within read c.refill.ensures.feed c.refill.ensures.opened c.refill.ensures.others;
+      front = front-more c.args.out.now.items c.heads.out.items c.refill.new.out.items inv.front c.refill.ensures.front;
+      added = c.refill.ensures.added ∙ inv.added;
+      lists = c.refill.ensures.lists ∙ inv.lists;
+      grows = omega (arith, c.refill.ensures.grows, inv.grows);
+      place_kept = c.refill.ensures.place ∙ inv.place_kept;
+    }
+
+pub returns-clause-took : goal.returns-clause-took
+returns-clause-took g c =
+    sliced-all (g.P.Pool.stands c.args.pool.now) (g.P.Pool.stands c.heads.pool) c.args.at.0 c.heads.place c.args.heads.now.items c.heads.heads.items
+    c.args.out.now.items c.heads.out.items c.heads.invariant.sliced (omega (arith, c.heads-test.false, c.heads.invariant.size))

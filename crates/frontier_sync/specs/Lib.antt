@@ -1,0 +1,4 @@
+pub mod Heads
+pub mod Slices
+pub mod Rising
+pub mod Stands
