@@ -40,9 +40,10 @@ HoldsSession course = interval course.session ≡ session (hours_of course) cour
 -- Of a feed of bars these items are left, where a file is open or none is, and these lines are left of it.
 pub record LeavesBars (f : Files) (course : Course) (symbol : List ℕ) (resolution : Resolution) (opened : Bool) (lines : List (ℕ × FileLine)) (list : List Item) : Type 0 where
   pub before : Option Row
-  pub behind : Behind course.file course.from before
+  pub behind : Behind resolution course.file course.from before
   pub session : opened ≡ true → HoldsSession course
-  pub later : MayStart course.from (numbers_left course)
+  pub begun : opened ≡ true → course.begun ≡ true
+  pub later : MayStart resolution course.from (numbers_left course)
   pub is : list ≡ given (kept_bar (hours_of course) course.key.start.0) BarItem (last_moment course.window)
       (with_open opened (equity_open (hours_of course) resolution course.file before lines)
        (equity_raw f (hours_of course) symbol resolution (numbers_left course)))

@@ -1,6 +1,6 @@
 -- What is left of a feed, as lists: the entries of the lines that are left of the open file and of the files behind it, and the
 -- items that come of them.
-use Rattle.std.specs.Prelude.{◌≡◌, ℕ, ◌+◌, ◌≤◌, Bool, if◌then◌else◌, List, [], ◌∷◌, ◌++◌, map, filter_map, Option, Some, None, Result, Ok, Err}
+use Rattle.std.specs.Prelude.{◌≡◌, ℕ, ◌+◌, ◌≤◌, pos, Bool, if◌then◌else◌, List, [], ◌∷◌, ◌++◌, map, filter_map, Option, Some, None, Result, Ok, Err}
 use Rattle.lean_fixed.specs.Moments.{midnight, day_of, minute_of_day}
 use Rattle.lean_fixed.specs.declared.resolution.Resolution.{Resolution}
 use Rattle.lean_fixed.specs.declared.resolution.Resolution.TheVariants.{Minute, Hour, Daily}
@@ -35,15 +35,21 @@ coarse_open file count lines = map (raw_of file (coarse_end file)) (entries coar
 abbrev pub with_open : {X : Type 0} → Bool → List (Raw X) → List (Raw X) → List (Raw X)
 with_open opened here later = if opened then here ++ later else later
 
--- the row before in the open file is known by the least moment at which the next may start
-abbrev pub Behind : ℕ → ℕ → Option Row → Type 0
-Behind file from None = from ≤ midnight file
-Behind file from (Some before) = from ≡ start_of before + 1
+-- no row of a file starts before this moment
+abbrev pub least_start : Resolution → ℕ → ℕ
+least_start Minute file = midnight file
+least_start Hour file = 0
+least_start Daily file = 0
 
--- the rows of later files may start at this moment
-abbrev pub MayStart : ℕ → List ℕ → Type 0
-MayStart from [] = Unit {0}
-MayStart from (file ∷ files) = (from ≤ midnight file) × MayStart from files
+-- the row before in the open file is known by the least moment at which the next may start
+abbrev pub Behind : Resolution → ℕ → ℕ → Option Row → Type 0
+Behind resolution file from None = from ≤ least_start resolution file
+Behind resolution file from (Some before) = (before.start.0 ≡ pos (start_of before)) × (from ≡ start_of before + 1)
+
+-- all rows of these files may start at this moment or later
+abbrev pub MayStart : Resolution → ℕ → List ℕ → Type 0
+MayStart resolution from [] = Unit {0}
+MayStart resolution from (file ∷ files) = (from ≤ least_start resolution file) × MayStart resolution from files
 
 -- what is known of the start of a row by its file
 abbrev pub StartsIn : Resolution → ℕ → Row → Type 0

@@ -13,7 +13,7 @@ use lean_items::{Bar, Item, Reason};
 ghost use Rattle.std.specs.Prelude.{◌≡◌, ◌≤◌, pos, Some, IfOk};
 ghost use Rattle.lean_fixed.specs.Calendar.{last_day};
 ghost use Rattle.equity_csv.specs.Written.{IsRow};
-ghost use Rattle.clock_feeds.specs.Raw.{equity_row};
+ghost use Rattle.clock_feeds.specs.Raw.{equity_row, start_of};
 ghost use Rattle.clock_feeds.specs.Kept.{bar_of};
 ghost use Rattle.row_feed.specs.ToCome.{StartsIn};
 
@@ -60,7 +60,7 @@ impl Course {
 
     // The row of a text, held against the row before it in its file.
     fn row_said(&self, resolution: Resolution, text: &[u8]) -> Result<Row, Reason>
-        ensures value { (before : Option Row) → Behind self.now.file self.now.from before
+        ensures value { (before : Option Row) → Behind resolution self.now.file self.now.from before
             → option_map (checked starts_after before) (equity_row resolution self.now.file text.now) ≡ Some result }
         ensures row { IfOk result IsRow }
         ensures starts { IfOk result (StartsIn resolution self.now.file) }
@@ -68,7 +68,7 @@ impl Course {
     {
         match read_row(resolution, self.file, text) {
             Ok(row) => {
-                if row.start.0.unsigned_abs() < self.from {
+                if start_of(&row) < self.from {
                     Err(Reason::Order)
                 } else {
                     Ok(row)
@@ -94,7 +94,9 @@ impl Course {
         ensures session { self.new.session ≡ self.old.session }
         ensures same { SameFile self.old self.new }
     {
-        let start = row.start.0.unsigned_abs();
+        sessions_lie(self.hours());
+        closings();
+        let start = start_of(&row);
         match self.judge_bar(resolution, start) {
             Judged::Kept(end) => {
                 self.from = start + 1;
@@ -161,6 +163,13 @@ fn read_row(resolution: Resolution, file: u32, text: &[u8]) -> Result<Row, Reaso
         Resolution::Minute => read_minute(Day(file as i32), text),
         Resolution::Hour | Resolution::Daily => read_dated(resolution, text),
     }
+}
+
+// The start of a row in minutes since 1970-01-01 00:00.
+fn start_of(row: &Row) -> u64
+    ensures { result ≡ start_of row.now }
+{
+    row.start.0.unsigned_abs()
 }
 
 fn bar_of(row: Row, end: u64) -> Bar

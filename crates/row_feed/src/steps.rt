@@ -23,6 +23,7 @@ impl Course {
     ghost use Rattle.line_source.specs.Lines.{FileLine, TextLine, LongLine, ManyLine, lines};
     ghost use Rattle.feed_paths.specs.Paths.{path};
     ghost use Rattle.clock_feeds.specs.Feeds.{rows};
+    ghost use Rattle.row_feed.specs.Reach.{after_of};
     ghost use Rattle.row_feed.specs.Course.{hours_of, files_room, CourseLeaves, HoldsSession, SameFeed, SameFile};
     ghost use Rattle.row_feed.specs.Steps.{StepGives, IsBad, bad_item, long_reason, StepIsOfKind, at_after, step_fits, StepWithin};
 
@@ -72,14 +73,20 @@ impl Course {
         ensures same { SameFeed self.old self.new }
         ensures at { self.new.at ≡ self.old.at }
     {
-        let after = if self.begun { Some(self.file) } else { None };
-        match next_file(self.key, self.window, self.hours(), after) {
+        match next_file(self.key, self.window, self.hours(), self.after()) {
             Some(file) => {
                 self.begin(file);
                 Some(file)
             }
             None => None,
         }
+    }
+
+    // The file behind which the next one is looked for.
+    fn after(&self) -> Option<u32>
+        ensures { result ≡ after_of self.now.begun self.now.file }
+    {
+        if self.begun { Some(self.file) } else { None }
     }
 
     // Goes to a file.

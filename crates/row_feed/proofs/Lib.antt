@@ -1,0 +1,5 @@
+pub mod RangeLemmas
+pub mod GivenLemmas
+pub mod OpenLemmas
+pub mod CourseLemmas
+pub mod StepLemmas
