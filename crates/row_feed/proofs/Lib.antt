@@ -3,3 +3,4 @@ pub mod GivenLemmas
 pub mod OpenLemmas
 pub mod CourseLemmas
 pub mod StepLemmas
+pub mod FeedLemmas

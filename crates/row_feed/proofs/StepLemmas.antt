@@ -320,7 +320,7 @@ coarse_fits kind window file from end row start at low high kind_is row_is so_fa
 
 -- ---- by what a feed reads
 
-step_more : (P Q : List Item → Type 0) → ((list : List Item) → P list → Q list) → (list : List Item) (result : Option Item) → StepGives P list result → StepGives Q list result
+pub step_more : (P Q : List Item → Type 0) → ((list : List Item) → P list → Q list) → (list : List Item) (result : Option Item) → StepGives P list result → StepGives Q list result
 step_more P Q more list None gives = more list gives
 step_more P Q more list (Some (BarItem bar)) gives = (gives.0, gives.1, more gives.0 gives.2)
 step_more P Q more list (Some (CoarseItem at row)) gives = (gives.0, gives.1, more gives.0 gives.2)

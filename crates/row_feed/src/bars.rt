@@ -33,7 +33,7 @@ impl Course {
     ghost use Rattle.row_feed.specs.Judged.{judged_bar, bar_given, KeptWithin};
     ghost use Rattle.row_feed.specs.ToCome.{Behind, StartsIn};
     ghost use Rattle.row_feed.specs.Course.{hours_of, LeavesBars, SameFile};
-    ghost use Rattle.row_feed.specs.Steps.{StepGives, StepIsOfKind, StepWithin, resolution_of, at_after, step_fits};
+    ghost use Rattle.row_feed.specs.Steps.{StepGives, StepIsOfKind, OnStepFaulted, StepWithin, resolution_of, at_after, step_fits};
 
     /// What the text of a line of a security's file gives.
     pub(crate) fn read_bar(
@@ -50,6 +50,7 @@ impl Course {
         ensures within { StepWithin (last_moment self.old.window) result }
         ensures at { self.new.at.0 ≡ at_after self.old.at.0 result }
         ensures kind { StepIsOfKind self.old.key.kind result }
+        ensures faultless { OnStepFaulted result ⊥ }
         ensures same { SameFile self.old self.new }
     {
         match self.row_said(resolution, text) {
@@ -90,6 +91,7 @@ impl Course {
         ensures within { StepWithin (last_moment self.old.window) result }
         ensures at { self.new.at.0 ≡ at_after self.old.at.0 result }
         ensures kind { StepIsOfKind self.old.key.kind result }
+        ensures faultless { OnStepFaulted result ⊥ }
         ensures from { self.new.from ≡ start_of row + 1 }
         ensures session { self.new.session ≡ self.old.session }
         ensures same { SameFile self.old self.new }

@@ -19,7 +19,7 @@ impl Course {
     ghost use Rattle.line_source.specs.Lines.{FileLine, TextLine};
     ghost use Rattle.row_feed.specs.Judged.{judged, coarse_given};
     ghost use Rattle.row_feed.specs.Course.{LeavesCoarse, SameFile};
-    ghost use Rattle.row_feed.specs.Steps.{StepGives, StepIsOfKind, StepWithin, at_after, step_fits};
+    ghost use Rattle.row_feed.specs.Steps.{StepGives, StepIsOfKind, OnStepFaulted, StepWithin, at_after, step_fits};
 
     /// What the text of a line of a coarse file gives.
     pub(crate) fn read_coarse(&mut self, number: u32, text: &[u8]) -> Option<Item>
@@ -31,6 +31,7 @@ impl Course {
         ensures within { StepWithin (last_moment self.old.window) result }
         ensures at { self.new.at.0 ≡ at_after self.old.at.0 result }
         ensures kind { StepIsOfKind self.old.key.kind result }
+        ensures faultless { OnStepFaulted result ⊥ }
         ensures same { SameFile self.old self.new }
     {
         coarse_row_is_valid();
@@ -57,6 +58,7 @@ impl Course {
         ensures within { StepWithin (last_moment self.old.window) result }
         ensures at { self.new.at.0 ≡ at_after self.old.at.0 result }
         ensures kind { StepIsOfKind self.old.key.kind result }
+        ensures faultless { OnStepFaulted result ⊥ }
         ensures count { self.new.count ≡ self.old.count }
         ensures same { SameFile self.old self.new }
     {

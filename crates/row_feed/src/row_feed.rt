@@ -153,7 +153,8 @@ impl<H: Hand> RowFeed<H> {
     {
         match self.course.next_file() {
             Some(file) => {
-                write_path(&self.course.key, file, &mut self.path);
+                let key = self.course.key;
+                write_path(&key, file, &mut self.path);
                 match self.reader.open(self.path.as_str()) {
                     Ok(_) => None,
                     Err(Failed) => Some(Item::Faulted),

@@ -25,7 +25,7 @@ impl Course {
     ghost use Rattle.clock_feeds.specs.Feeds.{rows};
     ghost use Rattle.row_feed.specs.Reach.{after_of};
     ghost use Rattle.row_feed.specs.Course.{hours_of, files_room, CourseLeaves, HoldsSession, SameFeed, SameFile};
-    ghost use Rattle.row_feed.specs.Steps.{StepGives, IsBad, bad_item, long_reason, StepIsOfKind, at_after, step_fits, StepWithin};
+    ghost use Rattle.row_feed.specs.Steps.{StepGives, IsBad, bad_item, long_reason, StepIsOfKind, OnStepFaulted, at_after, step_fits, StepWithin};
 
     /// The course of a feed that has given nothing yet.
     pub fn new(key: FeedKey, window: Window, hours: Arc<Hours>) -> Course
@@ -116,6 +116,7 @@ impl Course {
         ensures within { StepWithin (last_moment self.old.window) result }
         ensures at { self.new.at.0 ≡ at_after self.old.at.0 result }
         ensures kind { StepIsOfKind self.old.key.kind result }
+        ensures faultless { OnStepFaulted result ⊥ }
         ensures same { SameFile self.old self.new }
     {
         match self.key.kind {

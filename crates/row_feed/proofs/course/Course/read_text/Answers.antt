@@ -11,4 +11,6 @@ returns-in-Coarse-clause-gives c f left list leaves =
     (c.read_coarse.ensures.gives f left) leaves
 
 pub returns-in-Equity-clause-gives : goal.returns-in-Equity-clause-gives
-returns-in-Equity-clause-gives c f left list leaves = ?
+returns-in-Equity-clause-gives c f left list leaves =
+    text_of_kind f c.args.self.now c.read_bar.new.self (Equity c.in-Equity.field-0 c.in-Equity.resolution) ((c.args.number, TextLine c.args.text.now) ∷ left) left list c.read_bar.result c.in-Equity.is c.read_bar.ensures.same.feed.key
+    (c.read_bar.ensures.gives f c.in-Equity.field-0 left) leaves
