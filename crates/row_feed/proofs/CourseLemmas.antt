@@ -1,41 +1,32 @@
 -- What is left of a feed, from step to step.
-use Rattle.std.proofs.Common.{◌≡◌, ℕ, ◌+◌, ◌-◌, ◌*◌, ◌/◌, ◌<◌, ◌≤◌, ℤ, pos, negsuc, int_lt, nat_lt, List, [], ◌∷◌, ◌++◌, map, filter, Bool, true, false, refl, sym, ap, ◌∙◌, subst, arith}
-use Rattle.std.specs.Prelude.{Option, Some, None, Result, Ok, Err, ◌&&◌, if◌then◌else◌, option_map, unsigned_abs, cond}
+use Rattle.std.proofs.Common.{◌≡◌, ℕ, ◌+◌, ◌<◌, ◌≤◌, nat_lt, List, [], ◌∷◌, ◌++◌, filter, Bool, true, false, refl, sym, ap, ◌∙◌, subst, arith}
+use Rattle.std.specs.Prelude.{Option, Some, None, Err, if◌then◌else◌, option_map}
 use Rattle.std.proofs.lemmas.Bool.Decides.{nat_tests}
-use Rattle.std.proofs.lemmas.Int.{ints}
-use Rattle.lean_fixed.specs.Moments.{midnight, day_of, minute_of_day, last_moment}
+use Rattle.lean_fixed.specs.Moments.{last_moment}
 use Rattle.lean_fixed.specs.declared.resolution.Resolution.{Resolution}
-use Rattle.lean_fixed.specs.declared.resolution.Resolution.TheVariants.{Minute, Hour, Daily}
 use Rattle.lean_fixed.specs.declared.time.Window.{Window}
 use Rattle.lean_io.specs.Told.{Files}
-use Rattle.lean_items.specs.declared.coarse_row.CoarseRow.{CoarseRow}
 use Rattle.lean_items.specs.declared.feed_key.FeedKey.{FeedKey}
 use Rattle.lean_items.specs.declared.feed_key.FeedKind.{FeedKind}
 use Rattle.lean_items.specs.declared.feed_key.FeedKind.TheVariants.{Coarse, Equity}
 use Rattle.lean_items.specs.declared.item.Item.{Item}
-use Rattle.lean_items.specs.declared.item.Item.TheVariants.{Bar as BarItem, Coarse as CoarseItem, Bad, Faulted, End}
+use Rattle.lean_items.specs.declared.item.Item.TheVariants.{Bar as BarItem, End}
 use Rattle.lean_items.specs.declared.reason.Reason.{Reason}
-use Rattle.lean_items.specs.declared.reason.Reason.TheVariants.{Long, Many, Order}
-use Rattle.line_source.specs.Lines.{FileLine, TextLine, LongLine, ManyLine, lines, past_blank}
-use Rattle.equity_csv.specs.declared.row.Row.{Row}
+use Rattle.lean_items.specs.declared.reason.Reason.TheVariants.{Long, Many}
+use Rattle.line_source.specs.Lines.{FileLine, LongLine, ManyLine, lines, past_blank}
 use Rattle.exchange_hours.specs.Entries.{Entries}
-use Rattle.exchange_hours.specs.Grid.{in_session}
-use Rattle.exchange_hours.specs.Sessions.{Interval, session}
-use Rattle.feed_paths.specs.Files.{files, files_of, files_after, days, from_1970, count_to, has_session, day_of as first_day_of}
+use Rattle.feed_paths.specs.Files.{files, files_after}
 use Rattle.feed_paths.specs.Paths.{path_of}
-use Rattle.clock_feeds.specs.Entries.{checked, row_before}
-use Rattle.clock_feeds.specs.Raw.{Raw, Timed, raw_of, equity_row, equity_end, equity_raw, coarse_raw, coarse_text, coarse_end, starts_after, start_of}
+use Rattle.clock_feeds.specs.Raw.{Raw, Timed, equity_raw, coarse_raw}
 use Rattle.clock_feeds.specs.Kept.{kept_bar, kept_coarse_row}
 use Rattle.clock_feeds.specs.Feeds.{bars_of, coarse_of, coarse_item, rows, rows_of}
 use Rattle.row_feed.specs.declared.course.Course.{Course}
 use Rattle.row_feed.specs.Reach.{after_of, files_left}
-use Rattle.row_feed.specs.Spans.{interval, session_for, end_by}
-use Rattle.row_feed.specs.Judged.{judged, judged_bar, bar_given, coarse_given}
-use Rattle.row_feed.specs.Steps.{StepsTo, StepGives, bad_item, long_reason}
-use Rattle.row_feed.specs.ToCome.{given, equity_open, coarse_open, with_open, least_start, Behind, MayStart, StartsIn}
-use Rattle.row_feed.specs.Course.{hours_of, numbers_left, HoldsSession, LeavesBars, LeavesCoarse, LeavesOf, CourseLeaves, SameFeed, SameFile}
-use Rattle.row_feed.proofs.GivenLemmas.{given-end, given-bad, step_bar, step_coarse}
-use Rattle.row_feed.proofs.OpenLemmas.{equity-past_blank, equity-end, equity-text, equity-long, equity-many, equity-file, equity-none, coarse-past_blank, coarse-end, coarse-full, coarse-row, coarse-bad, coarse-skipped, coarse-long, coarse-many, coarse-file, coarse-none}
+use Rattle.row_feed.specs.Steps.{bad_item, long_reason}
+use Rattle.row_feed.specs.ToCome.{given, coarse_open, MayStart}
+use Rattle.row_feed.specs.Course.{hours_of, numbers_left, HoldsSession, LeavesOf, CourseLeaves, SameFeed}
+use Rattle.row_feed.proofs.GivenLemmas.{given-end, given-bad}
+use Rattle.row_feed.proofs.OpenLemmas.{equity-past_blank, equity-end, equity-long, equity-many, equity-file, equity-none, coarse-past_blank, coarse-end, coarse-full, coarse-long, coarse-many, coarse-file, coarse-none}
 
 -- ---- the first
 
@@ -164,7 +155,7 @@ blank_of f course all first list (Equity symbol resolution) is leaves = record {
   is =
       leaves.is
       ∙ ap (λ here. given (kept_bar (hours_of course) course.key.start.0) BarItem (last_moment course.window) (here ++ equity_raw f (hours_of course) symbol resolution (numbers_left course)))
-        (equity-past_blank (hours_of course) resolution course.file leaves.before all first is);
+      (equity-past_blank (hours_of course) resolution course.file leaves.before all first is);
 }
 
 -- blank lines say nothing
@@ -185,7 +176,7 @@ end_of_file f course more list (Equity symbol resolution) leaves = record {
   is =
       leaves.is
       ∙ ap (λ here. given (kept_bar (hours_of course) course.key.start.0) BarItem (last_moment course.window) (here ++ equity_raw f (hours_of course) symbol resolution (numbers_left course)))
-        (equity-end (hours_of course) resolution course.file leaves.before);
+      (equity-end (hours_of course) resolution course.file leaves.before);
 }
 
 -- behind the last line of a file that is not blank the next file is due

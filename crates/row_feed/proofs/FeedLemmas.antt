@@ -1,12 +1,11 @@
 -- What is left of a feed, over the hand that reads its files.
-use Rattle.std.proofs.Common.{◌≡◌, ℕ, List, [], ◌∷◌, Bool, true, false, refl, sym, ap, ◌∙◌, subst}
+use Rattle.std.proofs.Common.{◌≡◌, ℕ, List, [], ◌∷◌, Bool}
 use Rattle.std.specs.Prelude.{Option, Some, None}
 use Rattle.lean_io.specs.Told.{Files}
 use Rattle.lean_io.specs.declared.outside.Hand.{Ghosts}
 use Rattle.lean_items.specs.declared.item.Item.{Item}
 use Rattle.lean_items.specs.declared.item.Item.TheVariants.{Bar, Coarse, Bad, Faulted, End}
 use Rattle.lean_items.specs.Given.{GivesItem}
-use Rattle.line_source.specs.Lines.{FileLine}
 use Rattle.row_feed.specs.declared.feed.RowFeed.{RowFeed}
 use Rattle.row_feed.specs.Reader as reader
 use Rattle.row_feed.specs.Course.{CourseLeaves}

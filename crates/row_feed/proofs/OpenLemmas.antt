@@ -1,6 +1,6 @@
 -- What the lines that are left of a file say, from the first that is not blank on, and what the files behind it say.
 use Rattle.std.proofs.Common.{◌≡◌, ℕ, ◌+◌, List, [], ◌∷◌, ◌++◌, map, Bool, true, false, refl, sym, ap, ◌∙◌}
-use Rattle.std.specs.Prelude.{Option, Some, None, Result, Ok, Err, cond, if◌then◌else◌, nat_lt, option_map}
+use Rattle.std.specs.Prelude.{Option, Some, None, Result, Ok, Err, if◌then◌else◌, nat_lt, option_map}
 use Rattle.lean_fixed.specs.declared.resolution.Resolution.{Resolution}
 use Rattle.lean_io.specs.Told.{Files}
 use Rattle.lean_items.specs.declared.coarse_row.CoarseRow.{CoarseRow}
@@ -12,7 +12,7 @@ use Rattle.equity_csv.specs.declared.row.Row.{Row}
 use Rattle.exchange_hours.specs.Entries.{Entries}
 use Rattle.feed_paths.specs.Paths.{path_of}
 use Rattle.clock_feeds.specs.Entries.{Entry, entries, in_order, checked, row_before}
-use Rattle.clock_feeds.specs.Raw.{Raw, Timed, raw_of, file_entries, equity_row, equity_entries, equity_end, equity_raw, starts_after, coarse_text, coarse_said, coarse_end, coarse_entries, coarse_raw, first_rows, counted}
+use Rattle.clock_feeds.specs.Raw.{Raw, raw_of, file_entries, equity_row, equity_entries, equity_end, equity_raw, starts_after, coarse_text, coarse_end, coarse_entries, coarse_raw, first_rows, counted}
 use Rattle.row_feed.specs.ToCome.{equity_open, coarse_open, with_open}
 
 module _ {X : Type 0} (row : List ℕ → Option (Result X Reason)) where

@@ -1,19 +1,15 @@
 -- The numbers of what is given are in their ranges, and its end lies past the ends before it.
-use Rattle.std.proofs.Common.{◌≡◌, ℕ, ◌+◌, ◌*◌, ◌/◌, ◌%◌, ◌<◌, ◌≤◌, ℤ, pos, negsuc, ◌<ℤ◌, ◌≤ℤ◌, int_lt, int_le, Bool, true, false, refl, sym, ap, ◌∙◌, arith}
-use Rattle.std.specs.Prelude.{Option, Some, None, ◌&&◌, unsigned_abs}
+use Rattle.std.proofs.Common.{◌≡◌, ℕ, ◌<◌, ◌≤◌, ℤ, pos, negsuc, ◌<ℤ◌, ◌≤ℤ◌, int_lt, int_le, Bool, true, false, refl, arith}
+use Rattle.std.specs.Prelude.{◌&&◌}
 use Rattle.std.proofs.lemmas.Bool.{and_from}
 use Rattle.std.proofs.lemmas.Int.{ints}
-use Rattle.lean_fixed.specs.Moments.{midnight, day_of, minute_of_day}
 use Rattle.lean_fixed.specs.Ranges.{IsWithin, IsDatedMoment}
-use Rattle.lean_fixed.specs.declared.resolution.Resolution.{Resolution}
-use Rattle.lean_fixed.specs.declared.resolution.Resolution.TheVariants.{Minute, Hour, Daily}
 use Rattle.lean_items.specs.declared.coarse_row.CoarseRow.{CoarseRow}
 use Rattle.lean_items.specs.Coarse.{IsCoarse}
 use Rattle.lean_items.specs.Fits.{is_within, is_moment, is_price, is_volume, is_bar_in_range, is_row_in_range}
 use Rattle.equity_csv.specs.declared.row.Row.{Row}
 use Rattle.equity_csv.specs.Written.{IsRow}
 use Rattle.clock_feeds.specs.Kept.{bar_of}
-use Rattle.clock_feeds.specs.Raw.{start_of}
 
 within_tested : (low high n : ℤ) → IsWithin low high n → is_within low high n ≡ true
 within_tested low high n h =

@@ -1,11 +1,10 @@
 -- What a line's text gives, by what was read of it.
-use Rattle.std.proofs.Common.{◌≡◌, ℕ, ◌+◌, ◌-◌, ◌*◌, ◌/◌, ◌%◌, ◌<◌, ◌≤◌, ℤ, pos, negsuc, ◌<ℤ◌, ◌≤ℤ◌, int_lt, int_le, nat_lt, List, [], ◌∷◌, ◌++◌, map, filter, Bool, true, false, refl, sym, ap, ◌∙◌, subst, arith}
-use Rattle.std.specs.Prelude.{Option, Some, None, Result, Ok, Err, ◌&&◌, if◌then◌else◌, option_map, unsigned_abs, cond}
+use Rattle.std.proofs.Common.{◌≡◌, ℕ, ◌+◌, ◌*◌, ◌/◌, ◌%◌, ◌<◌, ◌≤◌, ℤ, pos, negsuc, ◌<ℤ◌, ◌≤ℤ◌, int_lt, int_le, nat_lt, List, [], ◌∷◌, ◌++◌, filter, Bool, true, false, refl, sym, ap, ◌∙◌, subst, arith}
+use Rattle.std.specs.Prelude.{Option, Some, None, Result, Ok, Err, ◌&&◌, option_map, unsigned_abs, cond}
 use Rattle.std.proofs.lemmas.Bool.Decides.{nat_tests}
 use Rattle.std.proofs.lemmas.Bool.{and_from}
 use Rattle.std.proofs.lemmas.Int.{ints}
-use Rattle.lean_fixed.specs.Moments.{midnight, day_of, minute_of_day, last_moment}
-use Rattle.lean_fixed.specs.Ranges.{IsDatedMoment}
+use Rattle.lean_fixed.specs.Moments.{midnight, day_of, last_moment}
 use Rattle.lean_fixed.specs.declared.resolution.Resolution.{Resolution}
 use Rattle.lean_fixed.specs.declared.resolution.Resolution.TheVariants.{Minute, Hour, Daily}
 use Rattle.lean_fixed.specs.declared.time.Window.{Window}
@@ -27,17 +26,17 @@ use Rattle.exchange_hours.specs.Grid.{in_session, close_of}
 use Rattle.exchange_hours.specs.Sessions.{Interval, session}
 use Rattle.feed_paths.specs.Files.{files_of}
 use Rattle.clock_feeds.specs.Entries.{checked, row_before}
-use Rattle.clock_feeds.specs.Raw.{Raw, Timed, raw_of, equity_row, equity_end, equity_raw, coarse_raw, coarse_text, coarse_end, starts_after, start_of}
+use Rattle.clock_feeds.specs.Raw.{Raw, raw_of, equity_row, equity_end, equity_raw, coarse_raw, coarse_text, coarse_end, starts_after, start_of}
 use Rattle.clock_feeds.specs.Kept.{kept_bar, kept_coarse_row, bar_of}
 use Rattle.clock_feeds.specs.Feeds.{coarse_item}
 use Rattle.row_feed.specs.declared.course.Course.{Course}
-use Rattle.row_feed.specs.Reach.{reach, reach_of, after_of}
+use Rattle.row_feed.specs.Reach.{reach, reach_of}
 use Rattle.row_feed.specs.Spans.{interval, session_for, end_by}
 use Rattle.row_feed.specs.declared.judged.Judged.TheVariants.{Kept as KeptRow}
 use Rattle.row_feed.specs.Judged.{judged, judged_bar, bar_given, coarse_given, KeptWithin}
 use Rattle.row_feed.specs.Steps.{StepsTo, StepGives, bad_item, resolution_of}
 use Rattle.row_feed.specs.ToCome.{given, equity_open, coarse_open, least_start, Behind, MayStart, StartsIn}
-use Rattle.row_feed.specs.Course.{hours_of, numbers_left, HoldsSession, LeavesBars, LeavesCoarse, LeavesOf, CourseLeaves, SameFeed, SameFile}
+use Rattle.row_feed.specs.Course.{hours_of, numbers_left, LeavesBars, LeavesCoarse, LeavesOf, CourseLeaves, SameFile}
 use Rattle.row_feed.proofs.RangeLemmas.{bar_in_range, row_in_range, past_last, not_before_last}
 use Rattle.row_feed.proofs.GivenLemmas.{given-bad, step_bar, step_coarse}
 use Rattle.row_feed.proofs.OpenLemmas.{equity-text, coarse-full, coarse-row, coarse-bad, coarse-skipped}
@@ -167,28 +166,28 @@ bars_row f old new symbol resolution number text row left list result read leave
     let more = equity_open (hours_of old) resolution old.file (Some row) left ++ later in
     let entry : Raw Row = record { file = old.file; line = number; says = Ok (record { row = row; end = equity_end (hours_of old) resolution row }) } in
     let first : equity_open (hours_of old) resolution old.file before ((number, TextLine text) ∷ left) ≡ entry ∷ equity_open (hours_of old) resolution old.file (Some row) left
-        = equity-text (hours_of old) resolution old.file before number text said.0 left said.1
-          ∙ ap (λ s. raw_of old.file (equity_end (hours_of old) resolution) (record { line = number; says = s }) ∷ equity_open (hours_of old) resolution old.file (row_before starts_after before said.0) left) said.2
-          ∙ ap (λ s. entry ∷ equity_open (hours_of old) resolution old.file (row_before starts_after before s) left) is_row in
+    = equity-text (hours_of old) resolution old.file before number text said.0 left said.1
+    ∙ ap (λ s. raw_of old.file (equity_end (hours_of old) resolution) (record { line = number; says = s }) ∷ equity_open (hours_of old) resolution old.file (row_before starts_after before said.0) left) said.2
+    ∙ ap (λ s. entry ∷ equity_open (hours_of old) resolution old.file (row_before starts_after before s) left) is_row in
     let is : list ≡ given keep BarItem last (entry ∷ more) = leaves.is ∙ ap (λ here. given keep BarItem last (here ++ later)) first in
     let held : session_for resolution (interval old.session) (session (hours_of old) (day_of (start_of row))) ≡ session (hours_of old) (day_of (start_of row))
-        = session_is resolution (hours_of old) old.file (interval old.session) row (leaves.session refl) read.starts in
+    = session_is resolution (hours_of old) old.file (interval old.session) row (leaves.session refl) read.starts in
     let value : result ≡ bar_given row (judged old.key.start.0 last (in_session (hours_of old) (start_of row)) (equity_end (hours_of old) resolution row))
-        = read.value ∙ ap (λ s. bar_given row (judged_bar old.key.start.0 last resolution (start_of row) s)) held ∙ ap (bar_given row) (judged_is resolution (hours_of old) old.key.start.0 last row) in
+    = read.value ∙ ap (λ s. bar_given row (judged_bar old.key.start.0 last resolution (start_of row) s)) held ∙ ap (bar_given row) (judged_is resolution (hours_of old) old.key.start.0 last row) in
     let steps : StepsTo (given keep BarItem last (entry ∷ more)) (given keep BarItem last more) result
-        = subst (StepsTo (given keep BarItem last (entry ∷ more)) (given keep BarItem last more)) (sym value)
-          (step_bar (hours_of old) old.key.start.0 last old.file number row (equity_end (hours_of old) resolution row) more) in
+    = subst (StepsTo (given keep BarItem last (entry ∷ more)) (given keep BarItem last more)) (sym value)
+    (step_bar (hours_of old) old.key.start.0 last old.file number row (equity_end (hours_of old) resolution row) more) in
     let may : MayStart resolution (start_of row + 1) (numbers_left old)
-        = subst (MayStart resolution (start_of row + 1)) (sym (numbers_open old (leaves.begun refl))) (may_start old.key.kind resolution old.key.start.0 old.window (hours_of old) old.file row read.kind read.starts) in
+    = subst (MayStart resolution (start_of row + 1)) (sym (numbers_open old (leaves.begun refl))) (may_start old.key.kind resolution old.key.start.0 old.window (hours_of old) old.file row read.kind read.starts) in
     let same = numbers_same old new read.same in
     let now : LeavesBars f new symbol resolution true left (given keep BarItem last more) = record {
-          before = Some row;
-          behind = (starts_from row read.is, read.from);
-          session = λ e. (rw (read.held, read.same.feed.hours, read.same.file) (leaves.session e));
-          begun = λ e. (read.same.begun ∙ leaves.begun e);
-          later = rw (same, read.from) may;
-          is = rw (same, read.same.feed.key, read.same.feed.window, read.same.feed.hours, read.same.file) refl;
-        } in
+      before = Some row;
+      behind = (starts_from row read.is, read.from);
+      session = λ e. (rw (read.held, read.same.feed.hours, read.same.file) (leaves.session e));
+      begun = λ e. (read.same.begun ∙ leaves.begun e);
+      later = rw (same, read.from) may;
+      is = rw (same, read.same.feed.key, read.same.feed.window, read.same.feed.hours, read.same.file) refl;
+    } in
     steps_give (LeavesBars f new symbol resolution true left) (given keep BarItem last (entry ∷ more)) (given keep BarItem last more) list result steps is now
 
 pub bars_bad : (f : Files) (old : Course) (symbol : List ℕ) (resolution : Resolution) (number : ℕ) (text : List ℕ) (reason : Reason) (left : List (ℕ × FileLine)) (list : List Item)
@@ -203,8 +202,8 @@ bars_bad f old symbol resolution number text reason left list reads leaves =
     let later = equity_raw f (hours_of old) symbol resolution (numbers_left old) in
     let more = equity_open (hours_of old) resolution old.file (row_before starts_after before said.0) left in
     let first : equity_open (hours_of old) resolution old.file before ((number, TextLine text) ∷ left) ≡ record { file = old.file; line = number; says = Err reason } ∷ more
-        = equity-text (hours_of old) resolution old.file before number text said.0 left said.1
-          ∙ ap (λ s. raw_of old.file (equity_end (hours_of old) resolution) (record { line = number; says = s }) ∷ more) said.2 in
+    = equity-text (hours_of old) resolution old.file before number text said.0 left said.1
+    ∙ ap (λ s. raw_of old.file (equity_end (hours_of old) resolution) (record { line = number; says = s }) ∷ more) said.2 in
     leaves.is ∙ ap (λ here. given keep BarItem last (here ++ later)) first ∙ given-bad keep BarItem last old.file number reason (more ++ later)
 
 -- ---- a coarse row
@@ -252,11 +251,11 @@ coarse_given_row f old new number text row left list result same count few said 
     let entry : Raw CoarseRow = record { file = old.file; line = number; says = Ok (record { row = row; end = coarse_end old.file row }) } in
     let is : list ≡ given keep coarse_item last (entry ∷ more) = leaves.is ∙ ap (λ here. given keep coarse_item last (here ++ later)) (coarse-row old.file old.count number text row left is_few said) in
     let steps : StepsTo (given keep coarse_item last (entry ∷ more)) (given keep coarse_item last more) result
-        = subst (StepsTo (given keep coarse_item last (entry ∷ more)) (given keep coarse_item last more)) (sym value)
-          (step_coarse old.key.start.0 last old.file number row (midnight (old.file + 1)) more) in
+    = subst (StepsTo (given keep coarse_item last (entry ∷ more)) (given keep coarse_item last more)) (sym value)
+    (step_coarse old.key.start.0 last old.file number row (midnight (old.file + 1)) more) in
     let now : LeavesCoarse f new true left (given keep coarse_item last more) = record {
-          is = rw (numbers_same old new same, same.feed.key, same.feed.window, same.file, count) refl;
-        } in
+      is = rw (numbers_same old new same, same.feed.key, same.feed.window, same.file, count) refl;
+    } in
     steps_give (LeavesCoarse f new true left) (given keep coarse_item last (entry ∷ more)) (given keep coarse_item last more) list result steps is now
 
 -- ---- the ends of rows

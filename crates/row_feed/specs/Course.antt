@@ -3,9 +3,7 @@ use Rattle.std.specs.Prelude.{◌≡◌, ℕ, Bool, true, List, Option}
 use Rattle.std.specs.Arc.{arc_value}
 use Rattle.lean_fixed.specs.Moments.{last_moment}
 use Rattle.lean_fixed.specs.declared.resolution.Resolution.{Resolution}
-use Rattle.lean_fixed.specs.declared.time.Window.{Window}
 use Rattle.lean_io.specs.Told.{Files}
-use Rattle.lean_items.specs.declared.feed_key.FeedKey.{FeedKey}
 use Rattle.lean_items.specs.declared.feed_key.FeedKind.{FeedKind}
 use Rattle.lean_items.specs.declared.feed_key.FeedKind.TheVariants.{Coarse, Equity}
 use Rattle.lean_items.specs.declared.item.Item.{Item}
@@ -46,7 +44,7 @@ pub record LeavesBars (f : Files) (course : Course) (symbol : List ℕ) (resolut
   pub later : MayStart resolution course.from (numbers_left course)
   pub is : list ≡ given (kept_bar (hours_of course) course.key.start.0) BarItem (last_moment course.window)
       (with_open opened (equity_open (hours_of course) resolution course.file before lines)
-       (equity_raw f (hours_of course) symbol resolution (numbers_left course)))
+      (equity_raw f (hours_of course) symbol resolution (numbers_left course)))
 
 pub record LeavesCoarse (f : Files) (course : Course) (opened : Bool) (lines : List (ℕ × FileLine)) (list : List Item) : Type 0 where
   pub is : list ≡ given (kept_coarse_row course.key.start.0) coarse_item (last_moment course.window)

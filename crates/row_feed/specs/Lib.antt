@@ -6,3 +6,4 @@ pub mod Steps
 pub mod ToCome
 pub mod Course
 pub mod Feed
+pub mod Few

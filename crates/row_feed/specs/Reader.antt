@@ -1,5 +1,5 @@
 -- The file that is open, and the lines that are left of it.
-use Rattle.std.specs.Prelude.{◌≡◌, ℕ, ◌-◌, Bool, true, false, List}
+use Rattle.std.specs.Prelude.{ℕ, Bool, true, false, List}
 use Rattle.lean_io.specs.declared.outside.Hand.{Ghosts}
 use Rattle.line_source.specs.Lines.{FileLine}
 use Rattle.line_source.specs.declared.line.Line.{Line}

@@ -1,6 +1,6 @@
 -- What is left of a feed, as lists: the entries of the lines that are left of the open file and of the files behind it, and the
 -- items that come of them.
-use Rattle.std.specs.Prelude.{◌≡◌, ℕ, ◌+◌, ◌≤◌, pos, Bool, if◌then◌else◌, List, [], ◌∷◌, ◌++◌, map, filter_map, Option, Some, None, Result, Ok, Err}
+use Rattle.std.specs.Prelude.{◌≡◌, ℕ, ◌+◌, ◌≤◌, pos, Bool, if◌then◌else◌, List, [], ◌∷◌, ◌++◌, map, filter_map, Option, Some, None}
 use Rattle.lean_fixed.specs.Moments.{midnight, day_of, minute_of_day}
 use Rattle.lean_fixed.specs.declared.resolution.Resolution.{Resolution}
 use Rattle.lean_fixed.specs.declared.resolution.Resolution.TheVariants.{Minute, Hour, Daily}

@@ -1,5 +1,12 @@
 //! The rows of a security's files.
 
+ghost use Rattle.std.specs.Prelude.{◌≡◌, ◌≤◌, pos, Some, IfOk};
+ghost use Rattle.lean_fixed.specs.Calendar.{last_day};
+ghost use Rattle.equity_csv.specs.Written.{IsRow};
+ghost use Rattle.clock_feeds.specs.Raw.{equity_row, start_of};
+ghost use Rattle.clock_feeds.specs.Kept.{bar_of};
+ghost use Rattle.row_feed.specs.ToCome.{StartsIn};
+
 use crate::course::Course;
 use crate::judged::{Judged, judge_bar};
 use crate::span::{Span, end_by, session_on};
@@ -9,13 +16,6 @@ use exchange_hours::laws::{closings, sessions_lie};
 use lean_fixed::ranges::MINUTES_PER_DAY;
 use lean_fixed::{Day, Moment, Resolution};
 use lean_items::{Bar, Item, Reason};
-
-ghost use Rattle.std.specs.Prelude.{◌≡◌, ◌≤◌, pos, Some, IfOk};
-ghost use Rattle.lean_fixed.specs.Calendar.{last_day};
-ghost use Rattle.equity_csv.specs.Written.{IsRow};
-ghost use Rattle.clock_feeds.specs.Raw.{equity_row, start_of};
-ghost use Rattle.clock_feeds.specs.Kept.{bar_of};
-ghost use Rattle.row_feed.specs.ToCome.{StartsIn};
 
 impl Course {
     ghost use Rattle.std.specs.Prelude.{◌≡◌, ℕ, ◌+◌, ◌<◌, ◌≤◌, true, List, ◌∷◌, Option, Some, IfOk, option_map};

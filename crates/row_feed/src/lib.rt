@@ -8,6 +8,7 @@ mod coarse;
 mod course;
 mod feed;
 mod judged;
+pub mod laws;
 mod path;
 mod reader;
 mod reading;

@@ -1,8 +1,8 @@
 -- The next file is a later one, and what is left begins with its lines.
-use Rattle.std.proofs.Common.{◌≡◌, ℕ, ◌<◌, ◌≤◌, ◌∷◌, [], ◌∙◌, true, sym, ap, arith, subst, Some}
+use Rattle.std.proofs.Common.{◌≡◌, ◌<◌, ◌∷◌, [], true, arith, Some}
 use Rattle.feed_paths.specs.Files.{files_after}
-use Rattle.row_feed.specs.Reach.{after_of, files_left}
-use Rattle.row_feed.specs.Course.{hours_of, numbers_left, files_room}
+use Rattle.row_feed.specs.Reach.{files_left}
+use Rattle.row_feed.specs.Course.{hours_of, numbers_left}
 use Rattle.row_feed.proofs.CourseLemmas.{Begins, later_file, fewer_files, leaves-next, leaves-none}
 use Rattle.row_feed.proofs.course.Course.next_file.Goals as goal
 
@@ -19,13 +19,13 @@ returns-in-Some-clause-some c f before list leaves found left told =
     let n = c.in-Some.file in
     let numbers : numbers_left s ≡ n ∷ files_after s.key s.window (hours_of s) (Some n) = rw (← c.hours.ensures, ← c.after.ensures) c.in-Some.ensures.rest in
     let begins : Begins s c.begin.new.self n = record {
-          feed = c.begin.ensures.same;
-          begun = c.begin.ensures.begun;
-          file = c.begin.ensures.file;
-          count = c.begin.ensures.count;
-          from = c.begin.ensures.from;
-          session = c.begin.ensures.session;
-        } in
+      feed = c.begin.ensures.same;
+      begun = c.begin.ensures.begun;
+      file = c.begin.ensures.file;
+      count = c.begin.ensures.count;
+      from = c.begin.ensures.from;
+      session = c.begin.ensures.session;
+    } in
     leaves-next f s c.begin.new.self n before left list found begins numbers leaves told
 
 pub returns-in-Some-clause-fewer : goal.returns-in-Some-clause-fewer

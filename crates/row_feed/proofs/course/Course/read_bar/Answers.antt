@@ -1,5 +1,4 @@
 -- What a row gives, and what is left behind it.
-use Rattle.std.proofs.Common.{◌≡◌, ◌∙◌, sym, ap}
 use Rattle.row_feed.proofs.StepLemmas.{bars_row, bars_bad}
 use Rattle.row_feed.proofs.course.Course.read_bar.Goals as goal
 

@@ -1,7 +1,7 @@
 -- What a row gives, and what is left behind it.
-use Rattle.std.proofs.Common.{◌≡◌, ◌<◌, ◌≤◌, ◌∙◌, sym, ap, refl, Ok, Err, Some, None}
+use Rattle.std.proofs.Common.{◌≡◌, ◌∙◌, sym, ap, refl, Ok, Err, Some, None}
 use Rattle.clock_feeds.specs.Raw.{coarse_said, coarse_text}
-use Rattle.row_feed.specs.Course.{SameFeed, SameFile}
+use Rattle.row_feed.specs.Course.{SameFile}
 use Rattle.row_feed.proofs.StepLemmas.{coarse_full, coarse_bad, coarse_skipped, coarse_given_row}
 use Rattle.row_feed.proofs.course.Course.read_coarse.Goals as goal
 
@@ -14,10 +14,10 @@ returns-in-Some-clause-gives c f left list leaves =
     let said : coarse_text c.args.text.now ≡ Some (Ok c.in-Some.row) = ap coarse_said (sym c.in-Ok.ensures ∙ ap Ok c.in-Some.is) in
     let e = c.give_coarse.ensures.same in
     let same : SameFile c.args.self.now c.give_coarse.new.self = record {
-          feed = record { key = e.feed.key; window = e.feed.window; hours = e.feed.hours };
-          begun = e.begun;
-          file = e.file;
-        } in
+      feed = record { key = e.feed.key; window = e.feed.window; hours = e.feed.hours };
+      begun = e.begun;
+      file = e.file;
+    } in
     coarse_given_row f c.args.self.now c.give_coarse.new.self c.args.number c.args.text.now c.in-Some.row left list c.give_coarse.result same c.give_coarse.ensures.count c.if-self-ge-MOST_ROWS.false said
     c.give_coarse.ensures.value leaves
 

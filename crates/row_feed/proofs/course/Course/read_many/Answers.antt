@@ -1,4 +1,3 @@
-use Rattle.std.proofs.Common.{◌≡◌, ◌∷◌, [], ◌∙◌, sym, ap}
 use Rattle.row_feed.proofs.CourseLemmas.{leaves-many}
 use Rattle.row_feed.proofs.course.Course.read_many.Goals as goal
 

@@ -1,5 +1,5 @@
 -- By what the feed reads.
-use Rattle.std.proofs.Common.{◌≡◌, ◌∙◌, sym, ap, true, ◌∷◌}
+use Rattle.std.proofs.Common.{◌∷◌}
 use Rattle.lean_items.specs.declared.feed_key.FeedKind.TheVariants.{Coarse, Equity}
 use Rattle.line_source.specs.Lines.{TextLine}
 use Rattle.row_feed.proofs.StepLemmas.{text_of_kind}

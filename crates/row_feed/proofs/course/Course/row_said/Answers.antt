@@ -1,5 +1,5 @@
 -- A row is in order where it does not start before the least moment.
-use Rattle.std.proofs.Common.{◌≡◌, ◌<◌, ◌≤◌, ◌∙◌, sym, ap, Some, subst}
+use Rattle.std.proofs.Common.{◌<◌, ◌≤◌, ap, Some}
 use Rattle.clock_feeds.specs.Raw.{start_of}
 use Rattle.row_feed.proofs.StepLemmas.{out_of_order, in_its_order}
 use Rattle.row_feed.proofs.course.Course.row_said.Goals as goal

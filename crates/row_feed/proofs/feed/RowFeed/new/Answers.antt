@@ -1,6 +1,5 @@
 -- Nothing was read, so all is left.
-use Rattle.std.proofs.Common.{◌≡◌, ◌∙◌, sym, ap, false, subst}
-use Rattle.line_source.specs.Lines.{FileLine}
+use Rattle.std.proofs.Common.{sym, subst}
 use Rattle.clock_feeds.specs.Feeds.{rows}
 use Rattle.row_feed.specs.Reader.{lines_left}
 use Rattle.row_feed.specs.Course.{CourseLeaves}

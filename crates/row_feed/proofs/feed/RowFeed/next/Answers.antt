@@ -1,5 +1,5 @@
 -- What a step gives is given.
-use Rattle.std.proofs.Common.{◌≡◌, sym, ap, Some}
+use Rattle.std.proofs.Common.{Some}
 use Rattle.row_feed.specs.Feed.{Leaves}
 use Rattle.row_feed.proofs.StepLemmas.{step_more}
 use Rattle.row_feed.proofs.feed.RowFeed.next.Goals as goal

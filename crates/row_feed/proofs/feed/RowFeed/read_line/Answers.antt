@@ -1,11 +1,10 @@
 -- A line is taken from the front of what is left, past the blank ones.
-use Rattle.std.proofs.Common.{◌≡◌, ◌∷◌, [], ◌∙◌, sym, ap, true, false, subst, Some}
+use Rattle.std.proofs.Common.{◌≡◌, ◌∷◌, [], ◌∙◌, sym, true, subst, Some}
 use Rattle.line_source.specs.Lines.{TextLine, LongLine, ManyLine, past_blank}
-use Rattle.lean_items.specs.declared.item.Item.{Item}
 use Rattle.row_feed.specs.Reader.{lines_left}
 use Rattle.row_feed.specs.Course.{CourseLeaves}
 use Rattle.row_feed.specs.Steps.{StepGives}
-use Rattle.row_feed.specs.Feed.{Leaves, hand_of}
+use Rattle.row_feed.specs.Feed.{hand_of}
 use Rattle.row_feed.proofs.CourseLemmas.{leaves-blank, leaves-end}
 use Rattle.row_feed.proofs.FeedLemmas.{bad_is_last, no_fault, feed_step}
 use Rattle.row_feed.proofs.feed.RowFeed.read_line.Goals as goal
@@ -16,10 +15,10 @@ returns-in-Text-clause-gives g c list leaves =
     let rest = g.H.Hand.rest in
     let told : g.H.Hand.files (hand_of s) ≡ Some leaves.f = leaves.told in
     let first : past_blank (lines_left rest s.reader) ≡ (c.number.result, TextLine c.text.result.now) ∷ lines_left rest c.next.new.self
-        = rw (c.number.ensures, c.text.ensures) (c.in-Text.ensures.gives leaves.f told) in
+    = rw (c.number.ensures, c.text.ensures) (c.in-Text.ensures.gives leaves.f told) in
     let here : CourseLeaves leaves.f s.course true (lines_left rest s.reader) list = subst (λ opened. CourseLeaves leaves.f s.course opened (lines_left rest s.reader) list) c.requires leaves.left in
     let gives : StepGives (CourseLeaves leaves.f c.read_text.new.self true (lines_left rest c.next.new.self)) list c.read_text.result
-        = c.read_text.ensures.gives leaves.f (lines_left rest c.next.new.self) list (leaves-blank leaves.f s.course (lines_left rest s.reader) ((c.number.result, TextLine c.text.result.now) ∷ lines_left rest c.next.new.self) list first here) in
+    = c.read_text.ensures.gives leaves.f (lines_left rest c.next.new.self) list (leaves-blank leaves.f s.course (lines_left rest s.reader) ((c.number.result, TextLine c.text.result.now) ∷ lines_left rest c.next.new.self) list first here) in
     feed_step g.H.Hand.files rest g.H.Hand.is_open _ leaves.f list c.read_text.result (c.in-Text.ensures.kept ∙ told)
     (subst (λ opened. StepGives (CourseLeaves leaves.f c.read_text.new.self opened (lines_left rest c.next.new.self)) list c.read_text.result) (sym c.in-Text.ensures.open) gives)
 
