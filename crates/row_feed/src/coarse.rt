@@ -48,7 +48,14 @@ impl Course {
         }
     }
 
-    // Gives a row, where it is kept, or ends where it is past the window. It is known from 00:00 of the next date on.
+    // The moment from which on the rows of the open file are known, 00:00 of the next date.
+    fn known_from(&self) -> u64
+        ensures { result ≡ midnight (self.now.file + 1) }
+    {
+        MINUTES_PER_DAY as u64 * (self.file as u64 + 1)
+    }
+
+    // Gives a row, where it is kept, or ends where it is past the window.
     fn give_coarse(&mut self, row: CoarseRow) -> Option<Item>
         requires kind { self.old.key.kind ≡ Coarse }
         requires row { IsCoarse row }
@@ -62,8 +69,7 @@ impl Course {
         ensures count { self.new.count ≡ self.old.count }
         ensures same { SameFile self.old self.new }
     {
-        let end = MINUTES_PER_DAY as u64 * (self.file as u64 + 1);
-        match judge(self.key.start, self.last(), end, true) {
+        match judge(self.key.start, self.last(), self.known_from(), true) {
             Judged::Kept(end) => {
                 self.at = moment_at(end);
                 Some(Item::Coarse(self.at, row))

@@ -7,4 +7,4 @@ returns-in-Kept-clause-fits c =
     let s = c.args.self.now in
     rw c.moment_at-self.ensures
     (coarse_fits s.key.kind s.window s.file s.from c.in-Kept.end c.args.row s.key.start.0 s.at.0 s.first s.last c.requires.kind c.requires.row s.reached
-    (rw (← c.last.ensures.value) c.in-Kept.ensures.within))
+    (rw (← c.last.ensures.value, ← c.known_from.ensures) c.in-Kept.ensures.within))
