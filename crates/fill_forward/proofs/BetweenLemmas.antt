@@ -1,21 +1,14 @@
 -- The walk over the moments between the last bar that was given and the next.
-use Rattle.std.proofs.Common.{◌≡◌, ℕ, suc, ◌+◌, ◌-◌, ◌<◌, ◌≤◌, List, [], ◌∷◌, ◌++◌, Bool, true, false, refl, sym, ap, ◌∙◌, subst, arith, append-nil}
-use Rattle.std.specs.Prelude.{Option, Some, None, find, filter, ◌&&◌, not, nat_lt, nat_le, if◌then◌else◌, option_map, is_some}
+use Rattle.std.proofs.Common.{◌≡◌, ℕ, ◌<◌, ◌≤◌, List, [], ◌∷◌, ◌++◌, Bool, true, false, refl, ap, ◌∙◌, subst, arith, append-nil}
+use Rattle.std.specs.Prelude.{Option, Some, None, find, filter, ◌&&◌, nat_le, if◌then◌else◌, option_map, is_some}
 use Rattle.std.specs.List.{list_all, last_or}
-use Rattle.std.specs.Option.{option_or}
-use Rattle.std.proofs.lemmas.Bool.{cases_lt}
 use Rattle.std.proofs.lemmas.Bool.Decides.{nat_tests}
 use Rattle.std.proofs.lemmas.List.Elements.{filter-append}
 use Rattle.lean_items.specs.declared.bad.Bad.{Bad}
 use Rattle.lean_items.specs.declared.bar.Bar.{Bar}
-use Rattle.lean_items.specs.declared.item.Item.{Item}
-use Rattle.lean_items.specs.declared.item.Item.TheVariants.{Bar as BarItem, Bad as BadItem, End}
 use Rattle.exchange_hours.specs.Grid.{is_grid_end}
-use Rattle.clock_steps.specs.Walks.{walk, IsIdle}
-use Rattle.clock_steps.proofs.WalkLemmas.{walk-idle, walk-first, walk-next, walk-none}
 use Rattle.clock_feeds.specs.Kept.{Kept}
 use Rattle.clock_feeds.specs.Bars.{Filling, end_of, ends_at, ends_before, is_over, fills_at, filled, latest, bar_at}
-use Rattle.clock_feeds.specs.Feeds.{last_item, items_at, items_from}
 use Rattle.clock_feeds.specs.Stands.{EndBy, Rises, Stands}
 use Rattle.clock_feeds.proofs.BarLemmas.{none_by, none_later, find_behind, all_before, none_before}
 

@@ -1,5 +1,5 @@
 -- What a feed leaves behind a call, whatever was read ahead.
-use Rattle.std.proofs.Common.{◌≡◌, ℕ, ◌+◌, ◌-◌, ◌<◌, ◌≤◌, ℤ, pos, ◌<ℤ◌, ◌≤ℤ◌, List, [], ◌∷◌, Bool, true, false, refl, sym, ap, ◌∙◌, subst, arith, true≢false, int_lt, int_le, is_some}
+use Rattle.std.proofs.Common.{◌≡◌, ℕ, ◌+◌, ℤ, pos, ◌≤ℤ◌, List, [], ◌∷◌, Bool, true, false, refl, sym, ap, ◌∙◌, subst, arith, true≢false, int_lt, int_le, is_some, ◌&&◌}
 use Rattle.std.specs.Prelude.{Option, Some, None, if◌then◌else◌}
 use Rattle.std.specs.List.{All}
 use Rattle.std.proofs.lemmas.Int.{ints}
@@ -20,7 +20,6 @@ use Rattle.lean_items.specs.Fits.{fits, end_or, is_bar_in_range, is_row_in_range
 use Rattle.std.proofs.lemmas.Bool.{and_parts}
 use Rattle.exchange_hours.specs.Entries.{Entries}
 use Rattle.feed_paths.specs.Files.{from_1970}
-use Rattle.clock_feeds.specs.Kept.{Kept}
 use Rattle.clock_feeds.specs.Bars.{Filling}
 use Rattle.clock_feeds.specs.Feeds.{bars_of, filling_of, rows_of, feed_of, rows, feed}
 use Rattle.clock_feeds.specs.Stands.{Rises}
@@ -29,6 +28,7 @@ use Rattle.fill_forward.specs.declared.ahead.Ahead.{Ahead}
 use Rattle.fill_forward.specs.declared.ahead.Ahead.TheVariants.{Nothing, Row, Over}
 use Rattle.fill_forward.specs.Again.{grid_of, resolution_of, IsAgain}
 use Rattle.fill_forward.specs.Held.{IsHeld}
+use Rattle.fill_forward.specs.Feed.{is_nothing}
 use Rattle.fill_forward.specs.Leaves.{LieBy, LeavesBars, LeavesBy}
 use Rattle.fill_forward.proofs.GivenLemmas.{read_row, read_over, give_bad, give_row, give_before, give_behind, give_end, first_left}
 
@@ -66,6 +66,19 @@ held_later fills at until rows_at later ended later_ended Nothing item is runnin
     λ still. let low : at ≤ℤ rows_at = held running in let up = fits_past rows_at item fit in rw past (omega (arith, ints, low, up))
 held_later fills at until rows_at later ended later_ended (Row row) item is running fit past held = absurd (let h : Row row ≡ Nothing = is in cc)
 held_later fills at until rows_at later ended later_ended Over item is running fit past held = absurd (let h : Over ≡ Nothing = is in cc)
+
+pub held_on : (key later_key : FeedKey) (at until rows_at later : ℤ) (ended later_ended : Bool) (ahead : Ahead) (item : Item) → grid_of key ≡ None → later_key ≡ key → (ended && is_nothing ahead) ≡ false
+    → fits rows_at item ≡ true → later ≡ end_or rows_at item
+    → IsHeld (is_some (grid_of key)) at until rows_at ended ahead → IsHeld (is_some (grid_of later_key)) at until later later_ended ahead
+held_on key later_key at until rows_at later ended later_ended ahead item none same running fit past held =
+    let nothing : ahead ≡ Nothing = held_nothing (grid_of key) at until rows_at ended ahead none held in
+    let here : (ended && true) ≡ false = subst (λ a. (ended && is_nothing a) ≡ false) nothing running in
+    subst (λ k. IsHeld (is_some (grid_of k)) at until later later_ended ahead) (sym same)
+    (held_later (is_some (grid_of key)) at until rows_at later ended later_ended ahead item nothing (goes_on ended here) fit past held)
+  where
+    goes_on : (b : Bool) → (b && true) ≡ false → b ≡ false
+    goes_on true h = h
+    goes_on false h = h
 
 module _ (leaves : List Item → Type 0) (hours : Entries) (window : Window) (key : FeedKey) (resolution : Resolution) (grid : grid_of key ≡ Some resolution) where
   pub row_gives : (row : Bar) (ahead : Ahead) (last : Option Bar) (at : ℤ) (items : List Item) → ahead ≡ Row row → IsAgain (filling_of hours window key resolution) last at row.end.0 None

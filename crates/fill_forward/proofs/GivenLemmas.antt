@@ -1,8 +1,7 @@
 -- What is left of the list of a feed behind each item that it gives.
-use Rattle.std.proofs.Common.{◌≡◌, ℕ, ◌+◌, ◌-◌, ◌<◌, ◌≤◌, ℤ, pos, negsuc, ◌<ℤ◌, ◌≤ℤ◌, List, [], ◌∷◌, ◌++◌, map, Bool, true, false, refl, sym, ap, ◌∙◌, subst, arith, append-nil, inl, inr, true≢false}
-use Rattle.std.specs.Prelude.{Option, Some, None, option_map, option_to_list, find, filter, nat_lt, ◌&&◌, if◌then◌else◌}
-use Rattle.std.specs.Option.{option_map_or, option_or}
-use Rattle.std.specs.List.{last_or}
+use Rattle.std.proofs.Common.{◌≡◌, ℕ, ◌+◌, ◌<◌, ◌≤◌, ℤ, pos, ◌<ℤ◌, List, [], ◌∷◌, ◌++◌, Bool, true, false, refl, sym, ap, ◌∙◌, subst, arith, append-nil, inl, inr, true≢false}
+use Rattle.std.specs.Prelude.{Option, Some, None, option_map, filter, nat_lt, if◌then◌else◌}
+use Rattle.std.specs.Option.{option_map_or}
 use Rattle.std.proofs.lemmas.Bool.{cases_lt, and_parts}
 use Rattle.std.proofs.lemmas.Bool.Decides.{nat_tests}
 use Rattle.std.proofs.lemmas.Int.{ints}
@@ -20,14 +19,13 @@ use Rattle.clock_steps.specs.Walks.{walk, IsIdle}
 use Rattle.clock_steps.proofs.WalkLemmas.{walk-idle, walk-first, walk-next, walk-none}
 use Rattle.feed_paths.specs.Files.{from_1970}
 use Rattle.clock_feeds.specs.Kept.{Kept}
-use Rattle.clock_feeds.specs.Bars.{Filling, end_of, ends_at, ends_before, is_over, fills_at, filled, latest, bar_at}
+use Rattle.clock_feeds.specs.Bars.{Filling, end_of, ends_before, fills_at, filled, latest, bar_at}
 use Rattle.clock_feeds.specs.Feeds.{last_item, items_at, items_from, row_items}
 use Rattle.clock_feeds.specs.Stands.{EndBy, Rises, Stands}
 use Rattle.clock_feeds.proofs.BarLemmas.{none_later, none_before}
-use Rattle.fill_forward.specs.declared.ahead.Ahead.{Ahead}
 use Rattle.fill_forward.specs.declared.ahead.Ahead.TheVariants.{Nothing, Row, Over}
-use Rattle.fill_forward.specs.Again.{IsQuiet, IsAgain}
-use Rattle.fill_forward.specs.Leaves.{items_of, LieBy, IsRead, LeavesBars}
+use Rattle.fill_forward.specs.Again.{IsAgain}
+use Rattle.fill_forward.specs.Leaves.{items_of, LieBy, LeavesBars}
 use Rattle.fill_forward.proofs.BetweenLemmas.{stands_first, stands_later, stands_past, bar_filled, no_bar, no_bar_first, bar_read, not_over_before, not_over_without, over_behind, fills, fills_not, fills_over}
 use Rattle.fill_forward.proofs.NumberLemmas.{since_past, past_since}
 
@@ -199,8 +197,7 @@ module _ (leaves : List Item → Type 0) (f : Filling) where
       let s : Stands l.kept.rows (row ∷ rest) last (from_1970 at) = subst (λ left. Stands l.kept.rows left last (from_1970 at)) l.read.1 l.stands in
       let lie : LieBy f.last (row ∷ rest) = subst (LieBy f.last) l.read.1 l.lie in
       let quiet = quiet_since f last at row.end.0 (end_of row) lie.0 again in
-      let end : end_of row ≡ from_1970 row.end.0 = sym (ap from_1970 lie.0) in
-      (
+      let end : end_of row ≡ from_1970 row.end.0 = sym (ap from_1970 lie.0) in (
         items_from f l.kept (end_of row + 1),
         l.walked ∙ gives_row f l.kept rest row last (from_1970 at) s lie.1 quiet,
         subst (λ t. LeavesBars leaves f Nothing (Some row) t (items_from f l.kept (end_of row + 1))) end (record {

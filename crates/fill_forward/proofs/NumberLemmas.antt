@@ -1,5 +1,5 @@
 -- Moments before and after 1970.
-use Rattle.std.proofs.Common.{◌≡◌, ℕ, ◌+◌, ◌-◌, ◌<◌, ◌≤◌, ℤ, pos, negsuc, ◌<ℤ◌, ◌≤ℤ◌, ◌-ℤ◌, ap, arith}
+use Rattle.std.proofs.Common.{ℕ, ◌<◌, ℤ, pos, negsuc, ◌<ℤ◌, ◌≤ℤ◌, ◌-ℤ◌, arith}
 use Rattle.std.proofs.lemmas.Int.{ints}
 use Rattle.feed_paths.specs.Files.{from_1970}
 use Rattle.fill_forward.specs.Feed.{moments_left}

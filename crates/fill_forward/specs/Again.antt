@@ -1,5 +1,5 @@
 -- Which bars are given again between two moments.
-use Rattle.std.specs.Prelude.{◌≡◌, ℕ, ℤ, pos, ◌<ℤ◌, Bool, true, false, if◌then◌else◌, Option, Some, None}
+use Rattle.std.specs.Prelude.{◌≡◌, ℕ, ℤ, pos, ◌<ℤ◌, true, false, if◌then◌else◌, Option, Some, None}
 use Rattle.lean_fixed.specs.declared.resolution.Resolution.{Resolution}
 use Rattle.lean_fixed.specs.declared.time.Moment.{Moment}
 use Rattle.lean_items.specs.declared.bar.Bar.{Bar}

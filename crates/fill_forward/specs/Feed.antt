@@ -1,7 +1,6 @@
 -- What a feed with filled bars holds, and what it leaves to give.
-use Rattle.std.specs.Prelude.{ℕ, ℤ, pos, ◌-ℤ◌, Bool, true, false, ◌&&◌, List, Option, Some, None}
+use Rattle.std.specs.Prelude.{ℕ, ℤ, ◌-ℤ◌, Bool, true, false, ◌&&◌, List, Option, Some, None}
 use Rattle.lean_fixed.specs.declared.resolution.Resolution.{Resolution}
-use Rattle.lean_fixed.specs.Moments.{last_moment}
 use Rattle.lean_io.specs.Told.{Files}
 use Rattle.lean_io.specs.declared.outside.Hand.{Ghosts}
 use Rattle.lean_items.specs.declared.bar.Bar.{Bar}

@@ -1,7 +1,6 @@
 -- What holds between a feed and its rows at any time.
 use Rattle.std.specs.Prelude.{◌≡◌, ℤ, ◌<ℤ◌, ◌≤ℤ◌, Bool, true, false}
 use Rattle.std.proofs.Props.{props}
-use Rattle.lean_items.specs.declared.bar.Bar.{Bar}
 use Rattle.fill_forward.specs.declared.ahead.Ahead.{Ahead}
 use Rattle.fill_forward.specs.declared.ahead.Ahead.TheVariants.{Nothing, Row, Over}
 

@@ -15,7 +15,6 @@ use Rattle.clock_feeds.specs.Feeds.{last_item, items_from, filling_of}
 use Rattle.clock_feeds.specs.Stands.{Stands}
 use Rattle.fill_forward.specs.declared.ahead.Ahead.{Ahead}
 use Rattle.fill_forward.specs.declared.ahead.Ahead.TheVariants.{Nothing, Row, Over}
-use Rattle.fill_forward.specs.Again.{grid_of}
 
 -- rows as items, and then the last item
 abbrev pub items_of : List Bar → Option Bad → List Item

@@ -26,7 +26,12 @@ pub fn grid_of(key: &FeedKey) -> Option<Resolution>
 }
 
 /// The first grid end between two moments, both left out.
-pub fn next_end(hours: &Hours, resolution: Resolution, after: Moment, before: Moment) -> Option<Moment>
+pub fn next_end(
+    hours: &Hours,
+    resolution: Resolution,
+    after: Moment,
+    before: Moment,
+) -> Option<Moment>
     requires low { neg_ℤ (pos 10000) ≤ℤ after.0 }
     requires high { after.0 ≤ℤ pos 121000000 }
     requires some { neg_ℤ (pos 10000) ≤ℤ before.0 }

@@ -30,7 +30,7 @@ impl<H: Hand> FilledFeed<H> {
         ensures leaves { (f : Files) → Leaves H.files H.rest H.is_open rows
             (row_list f (hours_of rows) (window_of rows) (key_of rows))
             → LeavesItems H.files H.rest H.is_open result
-                (feed_list f (hours_of rows) (window_of rows) (key_of rows)) }
+            (feed_list f (hours_of rows) (window_of rows) (key_of rows)) }
         ensures open { is_done result ≡ false }
         ensures rows { rows_of result ≡ rows }
     {

@@ -22,8 +22,7 @@ pub struct FilledFeed<H: Hand> {
     pub(crate) at: Moment,
     // the last moment of the window
     pub(crate) until: Moment,
-    ghost held: { IsHeld (is_some (grid_of (key_of rows))) at.0 until.0 (at_of rows) (has_ended rows) ahead }
-        by { IsHeld-prop (is_some (grid_of (key_of rows))) at.0 until.0 (at_of rows) (has_ended rows) ahead },
+    ghost held: { IsHeld (is_some (grid_of (key_of rows))) at.0 until.0 (at_of rows) (has_ended rows) ahead } by { IsHeld-prop (is_some (grid_of (key_of rows))) at.0 until.0 (at_of rows) (has_ended rows) ahead },
     ghost low: { neg_ℤ (pos 10000) ≤ℤ at.0 },
     ghost high: { at.0 ≤ℤ pos 121000000 },
     ghost end: { until.0 ≡ pos (last_moment (window_of rows)) },

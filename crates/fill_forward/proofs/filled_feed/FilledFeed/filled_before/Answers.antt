@@ -1,9 +1,9 @@
-use Rattle.std.proofs.Common.{◌≡◌, pos, ◌<ℤ◌, refl, subst, sym, ap, ◌∙◌}
+use Rattle.std.proofs.Common.{◌<ℤ◌, refl, subst, sym}
 use Rattle.std.specs.Prelude.{Some}
 use Rattle.lean_fixed.specs.declared.time.Moment.{Moment}
 use Rattle.exchange_hours.specs.Entries.{Entries}
 use Rattle.fill_forward.specs.Again.{IsNextEnd}
-use Rattle.fill_forward.specs.Feed.{filling, last_of, given_to}
+use Rattle.fill_forward.specs.Feed.{filling}
 use Rattle.fill_forward.proofs.AgainLemmas.{again_is, end_between}
 use Rattle.fill_forward.proofs.filled_feed.FilledFeed.filled_before.Goals as goal
 

@@ -21,10 +21,10 @@ returns-clause-leaves g c =
     let leaves = Leaves g.H.Hand.files g.H.Hand.rest g.H.Hand.is_open rows in
     let days = c.requires.window in
     λ files l.
-      subst (λ (k : FeedKey). LeavesBy leaves hours window key (grid_of key) Nothing None k.start.0 (feed files hours window key)) (sym c.key.ensures)
-      (feed_begins leaves files hours window key
-      (λ symbol resolution is. (
-        c.kept_bars_are_sound.ensures.rise files hours window key symbol resolution lie days is,
-        sound_lie _ (last_moment window) (bars_of files hours window key symbol resolution).rows (c.kept_bars_are_sound.ensures.sound files hours window key symbol resolution lie days is),
-      ))
-      (c.plain_feeds.ensures files hours window key lie days) l)
+    subst (λ (k : FeedKey). LeavesBy leaves hours window key (grid_of key) Nothing None k.start.0 (feed files hours window key)) (sym c.key.ensures)
+    (feed_begins leaves files hours window key
+    (λ symbol resolution is. (
+      c.kept_bars_are_sound.ensures.rise files hours window key symbol resolution lie days is,
+      sound_lie _ (last_moment window) (bars_of files hours window key symbol resolution).rows (c.kept_bars_are_sound.ensures.sound files hours window key symbol resolution lie days is),
+    ))
+    (c.plain_feeds.ensures files hours window key lie days) l)

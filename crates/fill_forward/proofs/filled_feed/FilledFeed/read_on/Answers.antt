@@ -9,8 +9,8 @@ returns-in-Bar-clause-gives g c =
     let kept = c.next.ensures.kept in
     let leaves = Leaves g.H.Hand.files g.H.Hand.rest g.H.Hand.is_open in
     λ list l. c.next_by_row.ensures.gives list
-      (row_read (leaves rows) (leaves later) (hours_of rows) (hours_of later) (window_of rows) (window_of later) (key_of rows) (key_of later) c.args.resolution
-      kept.hours kept.window kept.key c.in-Bar.row _ _ _ list c.requires.nothing c.in-Bar.ensures.gives l)
+    (row_read (leaves rows) (leaves later) (hours_of rows) (hours_of later) (window_of rows) (window_of later) (key_of rows) (key_of later) c.args.resolution
+    kept.hours kept.window kept.key c.in-Bar.row _ _ _ list c.requires.nothing c.in-Bar.ensures.gives l)
 
 pub returns-in-End-clause-gives : goal.returns-in-End-clause-gives
 returns-in-End-clause-gives g c =
@@ -19,8 +19,8 @@ returns-in-End-clause-gives g c =
     let kept = c.next.ensures.kept in
     let leaves = Leaves g.H.Hand.files g.H.Hand.rest g.H.Hand.is_open in
     λ list l. c.next_by_end.ensures.gives list
-      (over_read (leaves rows) (leaves later) (hours_of rows) (hours_of later) (window_of rows) (window_of later) (key_of rows) (key_of later) c.args.resolution
-      kept.hours kept.window kept.key _ _ _ list c.requires.nothing c.in-End.ensures.gives l)
+    (over_read (leaves rows) (leaves later) (hours_of rows) (hours_of later) (window_of rows) (window_of later) (key_of rows) (key_of later) c.args.resolution
+    kept.hours kept.window kept.key _ _ _ list c.requires.nothing c.in-End.ensures.gives l)
 
 pub returns-in-Bad-clause-gives : goal.returns-in-Bad-clause-gives
 returns-in-Bad-clause-gives g c =
