@@ -12,14 +12,14 @@ use lean_items::{Feed, FeedKey, FeedNo, Finished, Item, Pool};
 use std::alloc::Global;
 use std::sync::Arc;
 
-impl<'a, F: Folder, G: HandFeed<F>> PoolOver<'a, F, Slots<G>> {
-    ghost use Rattle.std.specs.Prelude.{◌≡◌, IfOk};
+impl<'a, F: Folder, G: HandFeed<F::H>> PoolOver<'a, F, Slots<G>> {
+    ghost use Rattle.std.specs.Prelude.{◌≡◌, IfOk, IsOk};
     ghost use Rattle.std.specs.Arc.{arc_value};
     ghost use Rattle.lean_fixed.specs.Ranges.{IsWindow};
     ghost use Rattle.lean_items.specs.Taken.{no_feeds};
     ghost use Rattle.feed_pool.specs.Lists.{lists_of};
 
-    /// A pool with no feed, over a window and the hours of the exchange.
+    /// A pool with no feed, over a window and the hours of the exchange. It asks for no memory, so that it is always made.
     pub fn new(
         alloc: Global,
         folder: &'a mut F,
@@ -27,6 +27,7 @@ impl<'a, F: Folder, G: HandFeed<F>> PoolOver<'a, F, Slots<G>> {
         hours: Arc<Hours>,
     ) -> Result<PoolOver<'a, F, Slots<G>>, NoMemory>
         requires { IsWindow window }
+        ensures made { IsOk result }
         ensures stands { IfOk result (λ pool.
             ⟦<PoolOver<'a, F, Slots<G>> as Pool>⟧.stands pool (F.faults folder.old) no_feeds) }
         ensures lists { IfOk result (λ pool. ⟦<PoolOver<'a, F, Slots<G>> as Pool>⟧.lists pool
@@ -46,11 +47,13 @@ impl<'a, F: Folder, G: HandFeed<F>> PoolOver<'a, F, Slots<G>> {
     }
 }
 
-impl<F: Folder, G: HandFeed<F>> Pool for PoolOver<'_, F, Slots<G>> {
+impl<F: Folder, G: HandFeed<F::H>> Pool for PoolOver<'_, F, Slots<G>> {
     ghost use Rattle.std.specs.Prelude.{◌≡◌, ◌+◌, ◌<◌, ◌≤◌, ◌==◌, true, false, not, if◌then◌else◌, ℕ, Some, None, IfOk, OnOk, slice_index_or, vec_len};
     ghost use Rattle.std.specs.Arc.{arc_value};
     ghost use Rattle.feed_pool.specs.Lists.{lists_of};
     ghost use Rattle.feed_pool.specs.Running.{is_open_at, room_at, room-of_few, Stands};
+
+    ghost files = { λ p. F.files p.folder.now };
 
     ghost lists = { λ p. lists_of (F.files p.folder.now) (arc_value p.slots.hours) p.slots.window };
 

@@ -44,6 +44,8 @@ impl Pool for MemPool<'_> {
     ghost use Rattle.pool_tests.specs.Scripts.{items_of};
     ghost use Rattle.pool_tests.specs.Places.{list_at, is_open_at, room_behind, room-behind_few, Stands};
 
+    ghost files = { λ _. None };
+
     ghost lists = { λ pool. Some (list_at (items_of pool.script)) };
 
     ghost faults = { λ pool. pool.faults.now };

@@ -1,4 +1,4 @@
-ghost use Rattle.std.specs.Prelude.{◌≡◌, ℕ, ◌<◌, ◌^◌, List, Some, IfOk};
+ghost use Rattle.std.specs.Prelude.{◌≡◌, ℕ, ◌<◌, ◌≤◌, ◌^◌, List, Some, IfOk};
 ghost use Rattle.std.specs.List.{Contains};
 ghost use Rattle.lean_fixed.specs.Counts.{Rose};
 ghost use Rattle.lean_fixed.specs.Ranges.{IsMoment};
@@ -21,6 +21,9 @@ pub fn take_all<P: Pool>(alloc: Global, pool: &mut P, key: FeedKey) -> Result<Ve
         → (lists : Key → List GivenItem) → P.lists pool.old ≡ Some lists → Follows (lists key) items.items) }
     ensures rose { IfOk result (λ items. (before : ℕ) → P.stands pool.old before no_feeds
         → Contains items.items Faulted → Rose before (P.faults pool.new)) }
+    ensures files { P.files pool.new ≡ P.files pool.old }
+    ensures grows { P.faults pool.old ≤ P.faults pool.new }
+    ensures place { P.place pool.new ≡ P.place pool.old }
 {
     let feed = pool.add(alloc, *&key)?;
     let mut items = Vec::new(alloc);
