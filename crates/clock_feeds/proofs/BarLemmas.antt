@@ -11,20 +11,20 @@ use Rattle.clock_feeds.specs.Bars.{Filling, end_of, ends_at, ends_before, fills_
 use Rattle.clock_feeds.specs.Stands.{EndBy, Rises, Stands}
 
 -- no row that ends by a moment ends at a later one
-none_by : (at t : ℕ) (rows : List Bar) → EndBy at rows → at < t → find (ends_at t) rows ≡ None
+pub none_by : (at t : ℕ) (rows : List Bar) → EndBy at rows → at < t → find (ends_at t) rows ≡ None
 none_by at t [] by lt = refl
 none_by at t (row ∷ rows) by lt =
     let other : ends_at t row ≡ false = (let low : end_of row ≤ at = by.0 in grind (arith, nat_tests)) in
     rw other (none_by at t rows by.1 lt)
 
 -- no row that rises from a moment on ends at it or before
-none_later : (after t : ℕ) (rows : List Bar) → Rises after rows → t ≤ after → find (ends_at t) rows ≡ None
+pub none_later : (after t : ℕ) (rows : List Bar) → Rises after rows → t ≤ after → find (ends_at t) rows ≡ None
 none_later after t [] rises le = refl
 none_later after t (row ∷ rows) rises le =
     let other : ends_at t row ≡ false = (let up : after < end_of row = rises.0 in grind (arith, nat_tests)) in
     rw other (none_later (end_of row) t rows rises.1 (omega (arith, rises.0)))
 
-find_behind : (p : Bar → Bool) (xs ys : List Bar) → find p xs ≡ None → find p (xs ++ ys) ≡ find p ys
+pub find_behind : (p : Bar → Bool) (xs ys : List Bar) → find p xs ≡ None → find p (xs ++ ys) ≡ find p ys
 find_behind p [] ys none = refl
 find_behind p (x ∷ xs) ys none = here (p x) refl (find_behind p xs ys)
   where
@@ -33,13 +33,13 @@ find_behind p (x ∷ xs) ys none = here (p x) refl (find_behind p xs ys)
     here false is later = rw is (later (let h : find p xs ≡ None = rw is at none in h))
 
 -- the rows that end before a later moment are those that were passed
-all_before : (at t : ℕ) (rows : List Bar) → EndBy at rows → at < t → filter (ends_before t) rows ≡ rows
+pub all_before : (at t : ℕ) (rows : List Bar) → EndBy at rows → at < t → filter (ends_before t) rows ≡ rows
 all_before at t [] by lt = refl
 all_before at t (row ∷ rows) by lt =
     let here : ends_before t row ≡ true = (let low : end_of row ≤ at = by.0 in grind (arith, nat_tests)) in
     rw (here, all_before at t rows by.1 lt) refl
 
-none_before : (after t : ℕ) (rows : List Bar) → Rises after rows → t ≤ after + 1 → filter (ends_before t) rows ≡ []
+pub none_before : (after t : ℕ) (rows : List Bar) → Rises after rows → t ≤ after + 1 → filter (ends_before t) rows ≡ []
 none_before after t [] rises le = refl
 none_before after t (row ∷ rows) rises le =
     let other : ends_before t row ≡ false = (let up : after < end_of row = rises.0 in grind (arith, nat_tests)) in

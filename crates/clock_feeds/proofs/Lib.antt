@@ -1,1 +1,10 @@
 pub mod BarLemmas
+pub mod SearchLemmas
+pub mod ListLemmas
+pub mod RiseLemmas
+pub mod SliceLemmas
+pub mod CutLemmas
+pub mod FileRowLemmas
+pub mod CoarseLemmas
+pub mod FeedLemmas
+pub mod StandLemmas

@@ -1,5 +1,5 @@
 -- What a security's feed gives at a moment, by asking all of its kept rows.
-use Rattle.std.specs.Prelude.{ℕ, Bool, false, not, ◌&&◌, ◌==◌, nat_le, nat_lt, if◌then◌else◌, unsigned_abs, pos, List, find, filter, Option, Some, None, option_map, is_some}
+use Rattle.std.specs.Prelude.{ℕ, Bool, false, not, ◌&&◌, ◌==◌, nat_le, nat_lt, if◌then◌else◌, unsigned_abs, pos, find, filter, Option, None, option_map, is_some}
 use Rattle.std.specs.List.{list_all, last_or}
 use Rattle.std.specs.Option.{option_or}
 use Rattle.lean_fixed.specs.declared.resolution.Resolution.{Resolution}

@@ -5,3 +5,5 @@ pub mod Bars
 pub mod Feeds
 pub mod Slices
 pub mod Stands
+pub mod Lists
+pub mod Worked

@@ -1,23 +1,18 @@
 -- The raw entries of a feed: what the lines of all its files say, file after file.
-use Rattle.std.specs.Prelude.{ℕ, ◌+◌, Bool, nat_lt, int_lt, if◌then◌else◌, unsigned_abs, List, [], ◌∷◌, map, flat_map, Option, Some, None, option_map, Result, Ok, Err}
-use Rattle.std.specs.Option.{option_map_or}
+use Rattle.std.specs.Prelude.{ℕ, ◌+◌, Bool, nat_lt, int_lt, if◌then◌else◌, unsigned_abs, List, [], ◌∷◌, map, flat_map, Option, Some, None, Result, Ok, Err}
 use Rattle.lean_fixed.specs.Moments.{midnight, day_of}
 use Rattle.lean_fixed.specs.declared.resolution.Resolution.{Resolution}
 use Rattle.lean_fixed.specs.declared.resolution.Resolution.TheVariants.{Minute, Hour, Daily}
-use Rattle.lean_fixed.specs.declared.time.Window.{Window}
 use Rattle.lean_io.specs.Told.{Files}
 use Rattle.lean_items.specs.declared.coarse_row.CoarseRow.{CoarseRow}
-use Rattle.lean_items.specs.declared.feed_key.FeedKey.{FeedKey}
-use Rattle.lean_items.specs.declared.feed_key.FeedKind.{FeedKind}
 use Rattle.lean_items.specs.declared.feed_key.FeedKind.TheVariants.{Coarse, Equity}
 use Rattle.lean_items.specs.declared.reason.Reason.{Reason}
-use Rattle.line_source.specs.Lines.{FileLine, TextLine, BlankLine, LongLine, ManyLine, lines}
+use Rattle.line_source.specs.Lines.{FileLine, BlankLine, ManyLine, lines}
 use Rattle.equity_csv.specs.declared.row.Row.{Row}
 use Rattle.equity_csv.specs.Rows.{minute_row, dated_row}
 use Rattle.coarse_csv.specs.Rows.{coarse_row}
 use Rattle.exchange_hours.specs.Entries.{Entries}
 use Rattle.exchange_hours.specs.Grid.{close_of}
-use Rattle.feed_paths.specs.Files.{files_of}
 use Rattle.feed_paths.specs.Paths.{path_of}
 use Rattle.clock_feeds.specs.Entries.{Entry, entries, in_order}
 

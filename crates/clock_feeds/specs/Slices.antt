@@ -1,5 +1,5 @@
 -- What ends at a moment, over some feeds: their bars, the malformed line that is due, and the rows of the coarse universe.
-use Rattle.std.specs.Prelude.{ℕ, ◌==◌, List, [], ◌∷◌, map, filter, flat_map, Option, Some, None, option_map}
+use Rattle.std.specs.Prelude.{ℕ, ◌==◌, List, [], ◌∷◌, map, filter, flat_map, Option, None, option_map}
 use Rattle.std.specs.Option.{option_or, option_to_list}
 use Rattle.lean_fixed.specs.declared.resolution.Resolution.{Resolution}
 use Rattle.lean_fixed.specs.declared.time.Window.{Window}

@@ -1,5 +1,5 @@
 -- How far a feed of bars has come: which of its kept rows lie behind it, and which are left.
-use Rattle.std.specs.Prelude.{◌≡◌, ℕ, ◌<◌, ◌≤◌, List, [], ◌∷◌, ◌++◌, Option, Some, None}
+use Rattle.std.specs.Prelude.{◌≡◌, ℕ, ◌<◌, ◌≤◌, List, [], ◌∷◌, ◌++◌, Option, None}
 use Rattle.std.specs.List.{last_or}
 use Rattle.lean_items.specs.declared.bar.Bar.{Bar}
 use Rattle.clock_feeds.specs.Bars.{end_of}

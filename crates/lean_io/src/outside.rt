@@ -16,7 +16,7 @@ pub struct Failed;
 pub struct WriteFault;
 
 /// Reads the files of a folder, one at a time.
-pub trait Hand: Send + Drop {
+pub trait Hand: Drop {
     /// The files, where the hand tells them.
     ghost files: { Self → Option Files };
 
@@ -57,7 +57,7 @@ pub trait Hand: Send + Drop {
 
 /// Files by their paths, which never change, and the hands that read them.
 pub trait Folder {
-    type H: Hand;
+    type H: Hand + Send;
 
     /// The files, where the folder tells them.
     ghost files: { Self → Option Files };

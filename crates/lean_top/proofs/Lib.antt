@@ -2,8 +2,6 @@ pub mod DayStarts
 pub mod HeadLemmas
 pub mod SheetLemmas
 pub mod StepLemmas
-pub mod PrintedLemmas
-pub mod LineTexts
 pub mod FollowLemmas
 pub mod NextLemmas
 pub mod Stepping

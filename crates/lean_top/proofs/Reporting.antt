@@ -17,14 +17,15 @@ use Rattle.lean_top.specs.declared.head.Head.TheVariants.{Row, Bad, Faulted, End
 use Rattle.lean_top.specs.declared.source.Source.{Source}
 use Rattle.lean_top.specs.declared.status.Status.{Status}
 use Rattle.lean_top.specs.declared.status.Status.TheVariants.{Done, BadRow, ReadFault}
-use Rattle.lean_top.specs.DailyTape.{Security, TapeRow, Refusal, refusal, tape, tape_step, tape_line, tape_text, end_line, data_line, last_line, tape_report_of}
+use Rattle.lean_top.specs.DailyTape.{Security, TapeRow, Refusal, refusal, tape, tape_step, tape_line, tape_text, refusal_line, last_line, tape_report_of}
 use Rattle.lean_top.specs.Endings.{IsWhole, EndsAt, HasStopped, EndsSo, IsTape, IsLastAt, IsLast, HasFaulted, IsTapeReport, IsTapeFront}
-use Rattle.lean_top.specs.Printed.{IsPrinted, IsTaken, IsFront}
+use Rattle.report_pages.specs.Lines.{end_line}
+use Rattle.report_pages.specs.Printed.{IsPrinted, IsTaken, IsFront}
 use Rattle.lean_top.specs.Head.{HasCause}
 use Rattle.lean_top.specs.Source.{IsSound}
 use Rattle.lean_top.specs.Steps.{IsFirstStop}
 use Rattle.lean_top.proofs.NextLemmas.{all-back}
-use Rattle.lean_top.proofs.PrintedLemmas.{IsFront-behind, IsFront-more, IsFront-printed, IsTaken-append}
+use Rattle.report_pages.proofs.PrintedLemmas.{IsFront-behind, IsFront-more, IsFront-printed, IsTaken-append}
 
 -- an empty page and all that was printed behind it went into the sink
 pub taken_whole : (before after last : Option (List ℕ)) (new bytes more : List ℕ) → IsPrinted before after [] new bytes → IsPrinted after last (new ++ more) [] [] → IsTaken before last (bytes ++ more)
@@ -38,7 +39,7 @@ module _ {H : Type 0} (all : List Security) (sources : List (Source H)) where
   report_at : (rows : List TapeRow) (symbol : List ℕ) (head : Head) (status : Status) (last : List ℕ) (before after : Option (List ℕ))
       → EndsAt all rows symbol head → IsLastAt symbol head status last → IsTaken before after (tape_text rows ++ last) → IsTapeReport all before after status
   report_at rows symbol (Bad bad) status last before after ends (is, line) taken =
-      rw (is, ends) (refl, (let t : IsTaken before after (tape_text rows ++ data_line (refusal symbol bad)) = rw line at taken in t))
+      rw (is, ends) (refl, (let t : IsTaken before after (tape_text rows ++ refusal_line (refusal symbol bad)) = rw line at taken in t))
   report_at rows symbol Faulted status last before after ends (is, none) taken =
       rw is (rows, ends, (let t : IsTaken before after (tape_text rows) = subst (IsTaken before after) (ap (λ l. tape_text rows ++ l) none ∙ append-nil (tape_text rows)) taken in t))
   report_at rows symbol (Row daily) status last before after ends is taken = absurd ends
@@ -91,7 +92,7 @@ module _ {H : Type 0} (all : List Security) (sources : List (Source H)) where
   front_at : (rows : List TapeRow) (symbol : List ℕ) (head : Head) (status : Status) (last : List ℕ) → EndsAt all rows symbol head → IsLastAt symbol head status last
       → (more : List ℕ) × ((tape_report_of (tape all)).0 ≡ tape_text rows ++ last ++ more)
   front_at rows symbol (Bad bad) status last ends (is, line) =
-      ([], rw (ends, line) (sym (append-nil (tape_text rows ++ data_line (refusal symbol bad)))))
+      ([], rw (ends, line) (sym (append-nil (tape_text rows ++ refusal_line (refusal symbol bad)))))
   front_at rows symbol Faulted status last ends (is, none) =
       let behind = text_behind rows (rows_at_stop rows symbol Faulted ends) in
       (behind.0, behind.1 ∙ ap (λ l. l ++ behind.0) (sym (ap (λ l. tape_text rows ++ l) none ∙ append-nil (tape_text rows))))

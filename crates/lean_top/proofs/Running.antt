@@ -11,7 +11,7 @@ use Rattle.lean_top.specs.DailyTape.{Security, TapeRow, Refusal, securities, tap
 use Rattle.lean_top.specs.Ending.{Seen, IsStop, Meets, IsComplete, ComesExactly, AreRefused, HasBadRow, IsWholeDays, HasRun}
 use Rattle.lean_top.specs.Endings.{IsWhole}
 use Rattle.lean_top.specs.Outcome.{HasTaped, HasUsage, HasStatusCause, NamesNoUsage}
-use Rattle.lean_top.specs.Printed.{IsTaken, IsFront}
+use Rattle.report_pages.specs.Printed.{IsTaken, IsFront}
 use Rattle.lean_top.specs.Report.{report, report_of}
 use Rattle.lean_top.proofs.Reporting.{rows_at_stop, text_behind}
 

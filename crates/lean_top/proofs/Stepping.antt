@@ -9,11 +9,11 @@ use Rattle.lean_io.specs.Told.{Files}
 use Rattle.lean_top.specs.declared.source.Source.{Source}
 use Rattle.lean_top.specs.DailyTape.{Security, TapeRow, tape_line, tape_text}
 use Rattle.lean_top.specs.Head.{StandsPast}
-use Rattle.lean_top.specs.Printed.{IsPrinted, IsFront}
+use Rattle.report_pages.specs.Printed.{IsPrinted, IsFront}
 use Rattle.lean_top.specs.Source.{IsSound, Follows}
 use Rattle.lean_top.specs.Steps.{IsAhead, AllAhead, AllPast, rows_now, all_rows_now}
 use Rattle.lean_top.proofs.NextLemmas.{all-append}
-use Rattle.lean_top.proofs.PrintedLemmas.{IsPrinted-append, IsPrinted-nothing, IsFront-behind, IsFront-more}
+use Rattle.report_pages.proofs.PrintedLemmas.{IsPrinted-append, IsPrinted-nothing, IsFront-behind, IsFront-more}
 
 -- where the first of two lists that follow one another ends
 module _ {X : Type 0} where

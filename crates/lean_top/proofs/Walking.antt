@@ -15,12 +15,12 @@ use Rattle.lean_top.specs.declared.source.Source.{Source}
 use Rattle.lean_top.specs.DailyTape.{Security, TapeRow, Refusal, named, refusal, step_of, rows_at, due, tape_step, tape_steps, tape, tape_line, tape_text}
 use Rattle.lean_top.specs.Endings.{IsWhole, EndsAt, EndsSo}
 use Rattle.lean_top.specs.Head.{StandsPast}
-use Rattle.lean_top.specs.Printed.{IsPrinted, IsFront}
+use Rattle.report_pages.specs.Printed.{IsPrinted, IsFront}
 use Rattle.lean_top.specs.Source.{Follows}
 use Rattle.lean_top.specs.Steps.{IsAhead, AllAhead, AllPast, Stops, IsFirstStop, all_rows_now}
 use Rattle.lean_top.proofs.StepLemmas.{rows_of_heads, none_due, still_before, first_due}
 use Rattle.lean_top.proofs.NextLemmas.{all-front}
-use Rattle.lean_top.proofs.PrintedLemmas.{IsPrinted-append, IsPrinted-nothing, IsFront-behind, IsFront-more}
+use Rattle.report_pages.proofs.PrintedLemmas.{IsPrinted-append, IsPrinted-nothing, IsFront-behind, IsFront-more}
 
 -- no row stands at the step before any day
 none_first : (rows : List FileRow) → filter (λ row. step_of row == 0) rows ≡ []

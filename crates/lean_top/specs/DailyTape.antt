@@ -1,18 +1,21 @@
 -- The daily tape: a report that walks the days. Step 0 comes before any day, step 1 is 1970-01-01, and the last step 2199-12-31.
-use Rattle.std.specs.Prelude.{ℕ, ◌+◌, ◌==◌, nat_le, if◌then◌else◌, unsigned_abs, List, [], ◌∷◌, ◌++◌, map, filter, flat_map, length, codes, decimal, Option, Some, None, option_map}
+use Rattle.std.specs.Prelude.{ℕ, ◌+◌, ◌==◌, nat_le, if◌then◌else◌, List, [], ◌∷◌, ◌++◌, map, filter, flat_map, length, Option, Some, None, option_map}
 use Rattle.std.specs.List.{list_all}
 use Rattle.std.specs.Option.{option_or}
 use Rattle.lean_fixed.specs.Calendar.{last_day}
-use Rattle.lean_fixed.specs.Printed.{day_text, money_text}
+use Rattle.lean_fixed.specs.Printed.{day_text}
+use Rattle.lean_fixed.specs.declared.resolution.Resolution.TheVariants.{Daily}
 use Rattle.lean_io.specs.Told.{Files}
 use Rattle.lean_items.specs.declared.bad.Bad.{Bad}
-use Rattle.lean_items.specs.Reasons.{reason_text}
+use Rattle.lean_items.specs.declared.feed_key.FeedKind.TheVariants.{Equity}
 use Rattle.equity_csv.specs.declared.row.Row.{Row}
 use Rattle.clock_steps.specs.Runs.{Ran, run, run_to}
+use Rattle.report_pages.specs.declared.trades.Trades.{Trades}
+use Rattle.report_pages.specs.Lines.{row_line, end_line, data_line}
 use Rattle.lean_top.specs.declared.status.Status.{Status}
 use Rattle.lean_top.specs.declared.status.Status.TheVariants.{Done, BadRow}
 use Rattle.lean_top.specs.Entry.{row_day}
-use Rattle.lean_top.specs.DailyFile.{Sheet, daily_sheet, daily_path}
+use Rattle.lean_top.specs.DailyFile.{Sheet, daily_sheet}
 
 -- a security and what its daily file says
 pub record Security : Type 0 where
@@ -64,30 +67,22 @@ tape_steps securities count = run (tape_step securities) count 0 tt
 abbrev pub tape : List Security → Ran (Unit {0}) TapeRow Refusal
 tape securities = run_to (tape_step securities) 0 (last_day + 1) tt
 
--- a part of a line, behind a space
-abbrev pub part : List ℕ → List ℕ
-part text = 32 ∷ text
+-- the prices and the volume of a row
+abbrev pub trades_of : Row → Trades
+trades_of row = record { opening = row.opening; high = row.high; low = row.low; closing = row.closing; volume = row.volume }
 
--- the line of a row: its day, symbol, opening, high, low and closing price, and volume
-unfoldable pub tape_line : TapeRow → List ℕ
-tape_line (symbol, row) =
-    day_text (row_day row) ++ part symbol
-    ++ part (money_text row.opening.0) ++ part (money_text row.high.0) ++ part (money_text row.low.0) ++ part (money_text row.closing.0)
-    ++ part (decimal (unsigned_abs row.volume.0)) ++ 10 ∷ []
+-- the line of a row, with its day in front
+abbrev pub tape_line : TapeRow → List ℕ
+tape_line (symbol, row) = row_line (day_text (row_day row)) symbol (trades_of row)
 
--- the last line of a whole tape, with the number of rows
-abbrev pub end_line : ℕ → List ℕ
-end_line n = codes "end " ++ decimal n ++ codes " rows\n"
-
--- the line that names a malformed line: the path of its file, its number, and the reason
-unfoldable pub data_line : Refusal → List ℕ
-data_line (symbol, bad) =
-    codes "data " ++ daily_path symbol ++ codes " line " ++ decimal bad.line ++ part (reason_text bad.reason) ++ 10 ∷ []
+-- the line that names a malformed line of a security's daily file
+abbrev pub refusal_line : Refusal → List ℕ
+refusal_line (symbol, bad) = data_line (Equity symbol Daily) bad
 
 -- the last line of a tape of so many rows, and its status
 abbrev pub last_line : ℕ → Option Refusal → List ℕ × Status
 last_line rows None = (end_line rows, Done)
-last_line rows (Some refusal) = (data_line refusal, BadRow)
+last_line rows (Some refusal) = (refusal_line refusal, BadRow)
 
 abbrev pub tape_text : List TapeRow → List ℕ
 tape_text rows = flat_map tape_line rows

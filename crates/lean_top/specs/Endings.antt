@@ -10,8 +10,9 @@ use Rattle.lean_io.specs.Told.{Rose}
 use Rattle.line_source.specs.Reader.{hand_of}
 use Rattle.lean_top.specs.declared.status.Status.{Status}
 use Rattle.lean_top.specs.declared.status.Status.TheVariants.{Done, BadRow, ReadFault}
-use Rattle.lean_top.specs.DailyTape.{Security, TapeRow, refusal, tape, tape_steps, tape_text, end_line, data_line, tape_report_of}
-use Rattle.lean_top.specs.Printed.{IsPrinted, IsTaken, IsFront}
+use Rattle.lean_top.specs.DailyTape.{Security, TapeRow, refusal, tape, tape_steps, tape_text, refusal_line, tape_report_of}
+use Rattle.report_pages.specs.Lines.{end_line}
+use Rattle.report_pages.specs.Printed.{IsPrinted, IsTaken, IsFront}
 use Rattle.lean_top.specs.Steps.{IsFirstStop}
 
 -- the rows of whole steps: of the first so many
@@ -30,7 +31,7 @@ EndsAt all rows symbol End = ⊥
 
 -- what is printed behind the last row, and the status
 abbrev pub IsLastAt : List ℕ → Head → Status → List ℕ → Type 0
-IsLastAt symbol (Bad bad) status last = (status ≡ BadRow) × (last ≡ data_line (refusal symbol bad))
+IsLastAt symbol (Bad bad) status last = (status ≡ BadRow) × (last ≡ refusal_line (refusal symbol bad))
 IsLastAt symbol Faulted status last = (status ≡ ReadFault) × (last ≡ [])
 IsLastAt symbol (Row daily) status last = ⊥
 IsLastAt symbol End status last = ⊥

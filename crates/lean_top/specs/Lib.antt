@@ -4,7 +4,6 @@ pub mod Command
 pub mod DailyFile
 pub mod DailyTape
 pub mod Head
-pub mod Printed
 pub mod Source
 pub mod Steps
 pub mod Endings

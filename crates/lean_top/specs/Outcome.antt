@@ -1,13 +1,13 @@
 -- What the parts of a command have printed, and why they ended.
 use Rattle.std.specs.Prelude.{◌≡◌, ℕ, List, Option, Some, codes}
 use Rattle.lean_io.specs.Told.{Files, Rose}
-use Rattle.lean_top.specs.declared.print.Stop.{Stop}
-use Rattle.lean_top.specs.declared.print.Stop.TheVariants.{NoMemory as OutOfMemory, WriteFault as FailedWrite}
+use Rattle.report_pages.specs.declared.pages.Stop.{Stop}
+use Rattle.report_pages.specs.declared.pages.Stop.TheVariants.{NoMemory as OutOfMemory, WriteFault as FailedWrite}
 use Rattle.lean_top.specs.declared.status.Status.{Status}
 use Rattle.lean_top.specs.declared.status.Status.TheVariants.{Done, Usage, Algorithm, BadRow, ReadFault, WriteFault, NoMemory, Limit}
 use Rattle.lean_top.specs.DailyTape.{Security}
 use Rattle.lean_top.specs.Endings.{IsTapeReport, IsTapeFront}
-use Rattle.lean_top.specs.Printed.{IsTaken, IsFront}
+use Rattle.report_pages.specs.Printed.{IsTaken, IsFront}
 
 -- the status of a stop
 abbrev pub stop_status : Stop → Status

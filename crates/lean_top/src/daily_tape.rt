@@ -4,22 +4,22 @@ ghost use Rattle.std.specs.List.{AllByRecursion, AllZip};
 ghost use Rattle.lean_fixed.specs.Calendar.{last_day};
 ghost use Rattle.lean_fixed.specs.Printed.{day_text};
 ghost use Rattle.lean_io.specs.Told.{Files};
-ghost use Rattle.lean_top.specs.DailyTape.{Security, step_of, tape, tape_line, tape_text};
+ghost use Rattle.lean_top.specs.DailyTape.{Security, step_of, tape, tape_line, tape_text, trades_of};
 ghost use Rattle.lean_top.specs.Entry.{row_day};
 ghost use Rattle.lean_top.specs.Head.{StandsPast};
-ghost use Rattle.lean_top.specs.Printed.{IsPrinted, IsFront, HasCause, HasRoom};
+ghost use Rattle.report_pages.specs.Printed.{IsPrinted, IsFront, HasCause, HasRoom};
 ghost use Rattle.lean_top.specs.Source.{IsSound, Follows};
 ghost use Rattle.lean_top.specs.Endings.{HasStopped, IsTape};
 ghost use Rattle.lean_top.specs.Steps.{IsAhead, AllAhead, AllPast, Stops, IsNext, IsLater, rows_now, all_rows_now};
 
 use crate::daily_row::DailyRow;
 use crate::head::Head;
-use crate::line::append_line;
-use crate::print::{Stop, turn_page};
 use crate::source::Source;
+use equity_csv::Row;
 use lean_fixed::Day;
 use lean_fixed::ranges::{LAST_DAY, MINUTES_PER_DAY};
 use lean_io::{Hand, Sink};
+use report_pages::{Stop, Trades, append_row, turn_page};
 
 /// The step past that of the last day.
 const PAST_LAST: u32 = LAST_DAY as u32 + 2;
@@ -74,6 +74,18 @@ fn step_of_row(row: &DailyRow) -> u32
     (row.row.start.0 / MINUTES_PER_DAY as i64) as u32 + 1
 }
 
+fn trades_of(row: &Row) -> Trades
+    ensures { result ≡ trades_of row.now }
+{
+    Trades {
+        opening: row.opening,
+        high: row.high,
+        low: row.low,
+        closing: row.closing,
+        volume: row.volume,
+    }
+}
+
 // Prints the row that is the head of a security, and goes on behind it.
 fn print_row<H: Hand, S: Sink>(
     date: &[u8],
@@ -98,7 +110,7 @@ fn print_row<H: Hand, S: Sink>(
     ensures cause { IfErr result (HasCause (S.faults out.old) (S.faults out.new)) }
     ensures grows { S.faults out.old ≤ S.faults out.new }
 {
-    append_line(date, &source.symbol, &row.row, page)?;
+    append_row(date, &source.symbol, &trades_of(&row.row), page)?;
     source.advance(row);
     turn_page(page, out)
 }

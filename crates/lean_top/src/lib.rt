@@ -6,9 +6,7 @@
 mod daily_row;
 mod daily_tape;
 mod head;
-mod line;
 mod path;
-mod print;
 mod report;
 mod source;
 mod sources;

@@ -9,7 +9,6 @@ ghost use Rattle.lean_top.specs.Outcome.{stop_status, HasTaped, HasUsage, HasSta
 ghost use Rattle.lean_top.specs.Source.{IsSound, Follows};
 ghost use Rattle.lean_top.specs.Steps.{AllPast};
 
-use crate::print::Stop;
 use crate::source::Source;
 use crate::sources::{give_back, open_sources};
 use crate::status::Status;
@@ -17,6 +16,7 @@ use crate::tape::print_tape;
 use crate::words::read_words;
 use lean_fixed::{NoMemory, Symbol};
 use lean_io::{Folder, Hand, Sink, WriteFault, write_whole};
+use report_pages::Stop;
 use std::alloc::Global;
 
 /// Runs a command line.

@@ -4,18 +4,18 @@ ghost use Rattle.std.specs.List.{AllByRecursion, AllZip};
 ghost use Rattle.lean_io.specs.Told.{Files, Rose};
 ghost use Rattle.lean_top.specs.DailyTape.{Security};
 ghost use Rattle.lean_top.specs.Endings.{HasStopped, IsLast, IsLastAt, HasFaulted, IsTapeReport, IsTapeFront, IsTapeStatus};
-ghost use Rattle.lean_top.specs.Printed.{HasCause};
+ghost use Rattle.report_pages.specs.Printed.{HasCause};
 ghost use Rattle.lean_top.specs.Source.{IsSound, Follows};
 ghost use Rattle.lean_top.specs.Steps.{AllPast, Stops};
 
 use crate::daily_tape::{Ending, print_rows};
 use crate::head::Head;
-use crate::line::{append_end, append_refusal};
-use crate::print::{PAGE, Stop, flush};
 use crate::source::Source;
 use crate::status::Status;
-use lean_fixed::NoMemory;
+use lean_fixed::{NoMemory, Resolution, Symbol};
 use lean_io::{Hand, Sink};
+use lean_items::FeedKind;
+use report_pages::{PAGE, Stop, append_end, append_refusal, flush};
 use std::alloc::Global;
 
 /// Prints the tape of some securities.
@@ -84,11 +84,18 @@ fn append_stop<H: Hand>(
 {
     match source.head {
         Head::Bad(bad) => {
-            append_refusal(alloc, &source.symbol, &bad, page)?;
+            append_refusal(alloc, daily(source.symbol), &bad, page)?;
             Ok(Status::BadRow)
         }
         Head::Faulted => Ok(Status::ReadFault),
         Head::Row(_) => unreachable!(),
         Head::End => unreachable!(),
     }
+}
+
+// What is read of a security of the daily tape.
+fn daily(symbol: Symbol) -> FeedKind
+    ensures { result ≡ FeedKind.Equity symbol Resolution.Daily }
+{
+    FeedKind::Equity(symbol, Resolution::Daily)
 }

@@ -1,6 +1,6 @@
 -- Behind its head a security leaves what it left, without the row.
 use Rattle.lean_top.proofs.FollowLemmas.{follows-row}
-use Rattle.lean_top.proofs.PrintedLemmas.{on_ok}
+use Rattle.report_pages.proofs.PrintedLemmas.{on_ok}
 use Rattle.lean_top.proofs.daily_tape.print_row.Goals as goal
 
 pub returns-clause-follows : goal.returns-clause-follows

@@ -3,7 +3,7 @@ use Rattle.std.specs.List.{AllByRecursion, AllZip}
 use Rattle.lean_fixed.specs.Calendar.{last_day}
 use Rattle.lean_io.specs.Told.{Files}
 use Rattle.lean_top.specs.DailyTape.{Security}
-use Rattle.lean_top.specs.Printed.{HasRoom}
+use Rattle.report_pages.specs.Printed.{HasRoom}
 use Rattle.lean_top.specs.Source.{IsSound, Follows}
 use Rattle.lean_top.specs.Steps.{AllPast}
 use Rattle.lean_top.proofs.Walking.{Walked}

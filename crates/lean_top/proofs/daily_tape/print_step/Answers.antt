@@ -1,6 +1,6 @@
 -- Security by security.
 use Rattle.std.proofs.Common.{rules, arith, refl, ◌<◌, length}
-use Rattle.lean_top.proofs.PrintedLemmas.{on_err}
+use Rattle.report_pages.proofs.PrintedLemmas.{on_err}
 use Rattle.lean_top.proofs.Stepping.{stepped-start, stepped-more, stepped-front, stepped-within}
 use Rattle.lean_top.proofs.daily_tape.print_step.Goals as goal
 

@@ -1,4 +1,4 @@
-use Rattle.lean_top.specs.Printed.{HasRoom}
+use Rattle.report_pages.specs.Printed.{HasRoom}
 use Rattle.lean_top.proofs.Stepping.{Stepped}
 use Rattle.std.proofs.Common.{◌≤◌}
 use Rattle.lean_top.proofs.daily_tape.print_step.Given as goal

@@ -1,10 +1,10 @@
 -- The rows, the last line and the last flush one after another.
 use Rattle.std.proofs.Common.{◌≡◌, [], refl, subst, sym}
-use Rattle.lean_top.proofs.PrintedLemmas.{on_err}
+use Rattle.report_pages.proofs.PrintedLemmas.{on_err}
 use Rattle.lean_top.proofs.Reporting.{report_of, taken_whole, front_of_rows, front_of_last}
 use Rattle.lean_top.specs.DailyTape.{tape_text}
 use Rattle.lean_top.specs.Endings.{IsLast}
-use Rattle.lean_top.specs.Printed.{IsPrinted}
+use Rattle.report_pages.specs.Printed.{IsPrinted}
 use Rattle.lean_top.proofs.tape.print_tape.Goals as goal
 
 pub returns-in_err-status-clause-front : goal.returns-in_err-status-clause-front

@@ -1,0 +1,5 @@
+pub mod BetweenLemmas
+pub mod GivenLemmas
+pub mod NumberLemmas
+pub mod AgainLemmas
+pub mod FeedLemmas
