@@ -15,6 +15,9 @@ use std::alloc::Global;
 /// A pool stands for the keys of all feeds ever added and what was taken of each. Whether that follows the lists of the
 /// keys is known when the pool is finished: a pool whose feeds run in threads learns it no earlier.
 pub trait Pool {
+    /// What the folder tells: the bytes of each path, where it tells its files.
+    ghost files: { Self → Option (List ℕ → Option (List ℕ)) };
+
     /// The list of the items of each key, where the folder tells its files.
     ghost lists: { Self → Option (FeedKey → List Item) };
 
@@ -50,6 +53,7 @@ pub trait Pool {
             → is_open self.new n ≡ (if n == feed.0 then true else is_open self.old n)) }
         ensures stands { (before : ℕ) (feeds : Feeds) → stands self.old before feeds
             → stands self.new before (added_to feeds key result) }
+        ensures files { files self.new ≡ files self.old }
         ensures lists { lists self.new ≡ lists self.old }
         ensures grows { faults self.old ≤ faults self.new }
         ensures place { place self.new ≡ place self.old };
@@ -63,6 +67,7 @@ pub trait Pool {
         ensures stands { (before : ℕ) (feeds : Feeds) → stands self.old before feeds
             → stands self.new before (taken_of feeds feed.0 result) }
         ensures added { added self.new ≡ added self.old }
+        ensures files { files self.new ≡ files self.old }
         ensures lists { lists self.new ≡ lists self.old }
         ensures grows { faults self.old ≤ faults self.new }
         ensures place { place self.new ≡ place self.old };
@@ -74,6 +79,7 @@ pub trait Pool {
         ensures stands { (before : ℕ) (feeds : Feeds) → stands self.old before feeds
             → stands self.new before feeds }
         ensures added { added self.new ≡ added self.old }
+        ensures files { files self.new ≡ files self.old }
         ensures lists { lists self.new ≡ lists self.old }
         ensures grows { faults self.old ≤ faults self.new }
         ensures place { place self.new ≡ place self.old };
@@ -87,6 +93,7 @@ pub trait Pool {
             → (lists : FeedKey → List Item) → Self.lists self.old ≡ Some lists → AllFollow lists feeds }
         ensures rose { (before : ℕ) (feeds : Feeds) → stands self.old before feeds
             → FaultsRose feeds before (faults self.new) }
+        ensures files { files self.new ≡ files self.old }
         ensures lists { lists self.new ≡ lists self.old }
         ensures grows { faults self.old ≤ faults self.new }
         ensures place { place self.new ≡ place self.old };

@@ -1,0 +1,24 @@
+use Rattle.std.proofs.Common.{◌≡◌, ℕ, ◌≤◌}
+use Rattle.std.specs.Prelude.{vec_len}
+use Rattle.std.specs.Arc.{arc_value}
+use Rattle.lean_items.specs.Taken.{Feeds}
+use Rattle.feed_pool.specs.Lists.{lists_of}
+use Rattle.feed_pool.specs.Running.{Stands}
+use Rattle.feed_pool.proofs.serial.PoolOverSlotsPool.finish.Given as goal
+
+abbrev pub invariant-feeds : goal.invariant-feeds
+invariant-feeds g l = record {
+  stands : (before : ℕ) (feeds : Feeds)
+      → Stands g.G.Feed.leaves g.G.Feed.has_ended g.G.Feed.faults (lists_of (g.F.Folder.files l.fn.self.folder.now) (arc_value l.fn.self.slots.hours) l.fn.self.slots.window)
+          before (g.F.Folder.faults l.fn.self.folder.now) l.fn.self.slots.feeds.items feeds
+      → Stands g.G.Feed.leaves g.G.Feed.has_ended g.G.Feed.faults (lists_of (g.F.Folder.files l.fn.self.folder.now) (arc_value l.fn.self.slots.hours) l.fn.self.slots.window)
+          before (g.F.Folder.faults l.self.folder.now) l.self.slots.feeds.items feeds;
+  files : g.F.Folder.files l.self.folder.now ≡ g.F.Folder.files l.fn.self.folder.now;
+  hours : arc_value l.self.slots.hours ≡ arc_value l.fn.self.slots.hours;
+  window : l.self.slots.window ≡ l.fn.self.slots.window;
+  grows : g.F.Folder.faults l.fn.self.folder.now ≤ g.F.Folder.faults l.self.folder.now;
+  place : l.self.folder.ghost_name ≡ l.fn.self.folder.ghost_name;
+}
+
+abbrev pub decreases-feeds : goal.decreases-feeds
+decreases-feeds g l = vec_len l.self.slots.feeds

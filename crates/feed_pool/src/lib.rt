@@ -1,0 +1,14 @@
+//! Pools of feeds over the files of a folder. The list of each feed is that of the definition over the folder's files, whatever
+//! other feeds there are, and a failed read is given only where the folder's count of faults has risen when the pool is
+//! finished.
+#![tactic(auto)]
+
+mod hand_feed;
+mod pool_over;
+mod refused;
+mod serial;
+mod slots;
+
+pub use hand_feed::HandFeed;
+pub use pool_over::PoolOver;
+pub use slots::Slots;

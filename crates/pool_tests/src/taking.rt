@@ -1,0 +1,51 @@
+ghost use Rattle.std.specs.Prelude.{◌≡◌, ℕ, ◌<◌, ◌≤◌, ◌^◌, List, Some, IfOk};
+ghost use Rattle.std.specs.List.{Contains};
+ghost use Rattle.lean_fixed.specs.Counts.{Rose};
+ghost use Rattle.lean_fixed.specs.Ranges.{IsMoment};
+ghost use Rattle.lean_items.specs.declared.feed_key.FeedKey.{FeedKey as Key};
+ghost use Rattle.lean_items.specs.declared.item.Item.{Item as GivenItem};
+ghost use Rattle.lean_items.specs.declared.item.Item.TheVariants.{Faulted};
+ghost use Rattle.lean_items.specs.Given.{is_last};
+ghost use Rattle.lean_items.specs.Taken.{no_feeds, Follows};
+
+use lean_fixed::NoMemory;
+use lean_items::{FeedKey, Item, Pool};
+use std::alloc::Global;
+
+/// Takes all items of a feed of a new pool, and finishes the pool. What was taken follows the list of the key, and a failed
+/// read is among it only where the pool's count of faults rose.
+pub fn take_all<P: Pool>(alloc: Global, pool: &mut P, key: FeedKey) -> Result<Vec<Item>, NoMemory>
+    requires few { P.added pool.old < 2 ^ 60 }
+    requires key { IsMoment key.start.0 }
+    ensures follow { IfOk result (λ items. (before : ℕ) → P.stands pool.old before no_feeds
+        → (lists : Key → List GivenItem) → P.lists pool.old ≡ Some lists → Follows (lists key) items.items) }
+    ensures rose { IfOk result (λ items. (before : ℕ) → P.stands pool.old before no_feeds
+        → Contains items.items Faulted → Rose before (P.faults pool.new)) }
+    ensures files { P.files pool.new ≡ P.files pool.old }
+    ensures grows { P.faults pool.old ≤ P.faults pool.new }
+    ensures place { P.place pool.new ≡ P.place pool.old }
+{
+    let feed = pool.add(alloc, *&key)?;
+    let mut items = Vec::new(alloc);
+    let mut open = true;
+    'items: while open {
+        let item = pool.take(*&feed);
+        open = !is_last(&item);
+        items.push(item)?;
+    }
+    let _ = pool.finish();
+    Ok(items)
+}
+
+// Whether nothing comes behind an item.
+fn is_last(item: &Item) -> bool
+    ensures { result ≡ is_last item.now }
+{
+    match item {
+        Item::Bar(_) => false,
+        Item::Coarse(_, _) => false,
+        Item::Bad(_) => true,
+        Item::Faulted => true,
+        Item::End => true,
+    }
+}
