@@ -90,6 +90,7 @@ impl Heads {
         ensures opened { OnOk result (AreOpen (P.is_open pool.new) self.new) }
         ensures same { OnErr result (out.new.items ≡ out.old.items) }
         ensures added { P.added pool.new ≡ P.added pool.old }
+        ensures files { P.files pool.new ≡ P.files pool.old }
         ensures lists { P.lists pool.new ≡ P.lists pool.old }
         ensures grows { P.faults pool.old ≤ P.faults pool.new }
         ensures place { P.place pool.new ≡ P.place pool.old }

@@ -30,6 +30,7 @@ pub(crate) fn refill_all<P: Pool>(
     ensures opened { OnOk result (AreOpen (P.is_open pool.new) heads.new.items) }
     ensures front { (more : List Arrival) × (out.new.items ≡ out.old.items ++ more) }
     ensures added { P.added pool.new ≡ P.added pool.old }
+    ensures files { P.files pool.new ≡ P.files pool.old }
     ensures lists { P.lists pool.new ≡ P.lists pool.old }
     ensures grows { P.faults pool.old ≤ P.faults pool.new }
     ensures place { P.place pool.new ≡ P.place pool.old }
@@ -59,6 +60,7 @@ fn refill<P: Pool>(
     ensures others { (n : ℕ) → n ≢ head.old.feed.0 → P.is_open pool.new n ≡ P.is_open pool.old n }
     ensures front { (more : List Arrival) × (out.new.items ≡ out.old.items ++ more) }
     ensures added { P.added pool.new ≡ P.added pool.old }
+    ensures files { P.files pool.new ≡ P.files pool.old }
     ensures lists { P.lists pool.new ≡ P.lists pool.old }
     ensures grows { P.faults pool.old ≤ P.faults pool.new }
     ensures place { P.place pool.new ≡ P.place pool.old }
@@ -81,6 +83,7 @@ fn take_next<P: Pool>(pool: &mut P, feed: FeedNo, at: Moment) -> Item
         ≡ (if n == feed.0 then not (is_last result) else P.is_open pool.old n) }
     ensures fewer { OnRow result (P.room pool.new feed.0 < P.room pool.old feed.0) }
     ensures added { P.added pool.new ≡ P.added pool.old }
+    ensures files { P.files pool.new ≡ P.files pool.old }
     ensures lists { P.lists pool.new ≡ P.lists pool.old }
     ensures grows { P.faults pool.old ≤ P.faults pool.new }
     ensures place { P.place pool.new ≡ P.place pool.old }

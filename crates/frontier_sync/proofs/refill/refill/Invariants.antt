@@ -20,6 +20,7 @@ invariant-items g l =
       opened : IsRow l.head.item → g.P.Pool.is_open now number.0 ≡ true;
       others : (n : ℕ) → n ≢ number.0 → g.P.Pool.is_open now n ≡ g.P.Pool.is_open first n;
       added : g.P.Pool.added now ≡ g.P.Pool.added first;
+      files : g.P.Pool.files now ≡ g.P.Pool.files first;
       lists : g.P.Pool.lists now ≡ g.P.Pool.lists first;
       grows : g.P.Pool.faults first ≤ g.P.Pool.faults now;
       place : g.P.Pool.place now ≡ g.P.Pool.place first;

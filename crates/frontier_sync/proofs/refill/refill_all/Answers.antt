@@ -12,6 +12,7 @@ heads-init g c = record {
   opened = c.requires.opened;
   front = ([], sym (append-nil c.args.out.now.items));
   added = refl;
+  files = refl;
   lists = refl;
   grows = omega arith;
   place_kept = refl;
@@ -51,6 +52,7 @@ heads-preserved g c =
           inv.rising within read c.refill.ensures.feed c.refill.ensures.opened c.refill.ensures.others;
       front = front-more c.args.out.now.items c.heads.out.items c.refill.new.out.items inv.front c.refill.ensures.front;
       added = c.refill.ensures.added ∙ inv.added;
+      files = c.refill.ensures.files ∙ inv.files;
       lists = c.refill.ensures.lists ∙ inv.lists;
       grows = omega (arith, c.refill.ensures.grows, inv.grows);
       place_kept = c.refill.ensures.place ∙ inv.place_kept;

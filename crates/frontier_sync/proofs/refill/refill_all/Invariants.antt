@@ -16,6 +16,7 @@ invariant-heads g l =
       opened : AreOpen (g.P.Pool.is_open now) l.heads.items;
       front : (more : List Arrival) × (l.out.items ≡ l.fn.out.items ++ more);
       added : g.P.Pool.added now ≡ g.P.Pool.added first;
+      files : g.P.Pool.files now ≡ g.P.Pool.files first;
       lists : g.P.Pool.lists now ≡ g.P.Pool.lists first;
       grows : g.P.Pool.faults first ≤ g.P.Pool.faults now;
       place_kept : g.P.Pool.place now ≡ g.P.Pool.place first;

@@ -25,6 +25,7 @@ taken-preserved g c =
       opened = open-still (g.P.Pool.is_open first) (g.P.Pool.is_open now) (g.P.Pool.is_open next) feed item row c.requires.opened c.taken.invariant.opened c.take-item.ensures.opened;
       fewer = omega (arith, fewer, c.taken.invariant.fewer);
       added = c.take-item.ensures.added ∙ c.taken.invariant.added;
+      files = c.take-item.ensures.files ∙ c.taken.invariant.files;
       lists = c.take-item.ensures.lists ∙ c.taken.invariant.lists;
       grows = omega (arith, c.take-item.ensures.grows, c.taken.invariant.grows);
       place = c.take-item.ensures.place ∙ c.taken.invariant.place;

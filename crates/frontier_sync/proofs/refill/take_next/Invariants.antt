@@ -16,6 +16,7 @@ invariant-taken g l =
       opened : (n : ℕ) → g.P.Pool.is_open now n ≡ g.P.Pool.is_open first n;
       fewer : g.P.Pool.room now l.feed.0 ≤ g.P.Pool.room first l.feed.0;
       added : g.P.Pool.added now ≡ g.P.Pool.added first;
+      files : g.P.Pool.files now ≡ g.P.Pool.files first;
       lists : g.P.Pool.lists now ≡ g.P.Pool.lists first;
       grows : g.P.Pool.faults first ≤ g.P.Pool.faults now;
       place : g.P.Pool.place now ≡ g.P.Pool.place first;
