@@ -44,9 +44,9 @@ none_in has = omega (arith, has.1)
 -- a place that is open stands in the list
 pub is-within : {G : Type 0} (ended : G → Bool) (feeds : List (Option G)) (n : ℕ) → is_open_at ended feeds n ≡ true → n < length feeds
 is-within ended feeds n there = elim (cases_lt n (length feeds)) [
-    inl h ↦ h
+  | inl h ↦ h
   | inr h ↦ absurd (false≢true (ap (is_running ended) (sym (get_or_past feeds n None h)) ∙ there))
-  ]
+]
 
 -- the list of a key, where the files are told
 pub told-list : (files : Option Files) (hours : Entries) (window : Window) (key : FeedKey) (leaves : List Item → Type 0)
@@ -66,8 +66,8 @@ module _ {G : Type 0} (leaves : G → List Item → Type 0) (ended : G → Bool)
     row-taken item row other still grows gives =
         let left : (l : FeedKey → List Item) → lists ≡ Some l → (rest : List Item) × leaves is rest × (l taken.key ≡ (taken.items ++ item ∷ []) ++ rest)
         = λ l told. (let had = running.left l told there in
-            let next = gives had.0 had.1 in
-            (next.0, next.2, had.2 ∙ ap (λ x. taken.items ++ x) next.1 ∙ sym (append_assoc taken.items (item ∷ []) next.0))) in
+        let next = gives had.0 had.1 in
+        (next.0, next.2, had.2 ∙ ap (λ x. taken.items ++ x) next.1 ∙ sym (append_assoc taken.items (item ∷ []) next.0))) in
         record {
           follows = λ l told. inl ((left l told).0, (left l told).2);
           left = λ l told e. ((left l told).0, (left l told).1, (left l told).2);
@@ -122,7 +122,7 @@ module _ {G : Type 0} (leaves : G → List Item → Type 0) (ended : G → Bool)
         let open_was : ended gave.was ≡ false = not_ended (ended gave.was) (subst (λ x. is_running ended x ≡ true) gave.there there) in
         let running : IsRunning leaves ended faults lists gave.was taken = subst (λ x. Standing leaves ended faults lists before now x taken) gave.there standing in
         subst (λ x. Standing leaves ended faults lists before now x (more (item ∷ []) taken)) (sym gave.still)
-            (item-taken lists gave.was gave.is taken open_was running item gave.ends gave.grows gave.rose gave.gives)
+        (item-taken lists gave.was gave.is taken open_was running item gave.ends gave.grows gave.rose gave.gives)
 
     module _ (later : ℕ) (grows : now ≤ later) where
       -- a count that grows stays risen

@@ -41,10 +41,10 @@ module _ {A : Type 0} where
         → Later x (record { key = key; items = [] }) → AtEach Fact places feeds → AtEach Later (places ++ x ∷ []) (added_to feeds key (Ok (record { 0 = k })))
     each-added places feeds k x key count new each n taken is =
         elim (of_new (eqb n k) (feeds n) (record { key = key; items = [] }) taken is) [
-          inl h ↦ (let at : length places ≡ n = count ∙ sym (eqb-true n k h.0) in
+          | inl h ↦ (let at : length places ≡ n = count ∙ sym (eqb-true n k h.0) in
               let here = subst (λ t. Later x t) h.1 new in
               subst (λ y. Later y taken) (sym (get_or_push places x None n at)) here)
-        | inr h ↦ (let other : n ≢ length places = λ e. differs n k h.0 (e ∙ count) in
+          | inr h ↦ (let other : n ≢ length places = λ e. differs n k h.0 (e ∙ count) in
               subst (λ y. Later y taken) (sym (push_other places x n other)) (kept (get_or places n None) taken (each n taken h.1)))
         ]
 
@@ -53,12 +53,12 @@ module _ {A : Type 0} where
         → AtEach Fact places feeds → AtEach Later (set places k x) (taken_of feeds k item)
     each-taken places feeds k x item within step each n taken is =
         elim (of_one (eqb n k) (feeds n) (item ∷ []) taken is) [
-          inl h ↦ (let here : n ≡ k = eqb-true n k h.0 in
+          | inl h ↦ (let here : n ≡ k = eqb-true n k h.0 in
               let was : Fact (get_or places k None) h.1.0 = subst (λ m. Fact (get_or places m None) h.1.0) here (each n h.1.0 h.1.1) in
               let now : Later x taken = subst (λ t. Later x t) h.1.2 (step h.1.0 was) in
               let at : get_or (set places k x) n None ≡ x = subst (λ m. get_or (set places k x) m None ≡ x) (sym here) (get_or-set_same places k x None within) in
               subst (λ y. Later y taken) (sym at) now)
-        | inr h ↦ subst (λ y. Later y taken) (sym (get_or-set_other places k n x None (differs n k h.0))) (kept (get_or places n None) taken (each n taken h.1))
+          | inr h ↦ subst (λ y. Later y taken) (sym (get_or-set_other places k n x None (differs n k h.0))) (kept (get_or places n None) taken (each n taken h.1))
         ]
 
     pub each-set : (places : List (Option A)) (feeds : Feeds) (k : ℕ) (x : Option A) → k < length places
@@ -66,20 +66,20 @@ module _ {A : Type 0} where
         → AtEach Fact places feeds → AtEach Later (set places k x) feeds
     each-set places feeds k x within step each n taken is =
         elim (eqb_tells n k) [
-          inl h ↦ (let was : Fact (get_or places k None) taken = subst (λ m. Fact (get_or places m None) taken) h.1 (each n taken is) in
+          | inl h ↦ (let was : Fact (get_or places k None) taken = subst (λ m. Fact (get_or places m None) taken) h.1 (each n taken is) in
               let at : get_or (set places k x) n None ≡ x = subst (λ m. get_or (set places k x) m None ≡ x) (sym h.1) (get_or-set_same places k x None within) in
               subst (λ y. Later y taken) (sym at) (step taken was))
-        | inr h ↦ subst (λ y. Later y taken) (sym (get_or-set_other places k n x None h.1)) (kept (get_or places n None) taken (each n taken is))
+          | inr h ↦ subst (λ y. Later y taken) (sym (get_or-set_other places k n x None h.1)) (kept (get_or places n None) taken (each n taken is))
         ]
 
     pub each-popped : (places : List (Option A)) (x : Option A) (feeds : Feeds) → ((taken : Taken) → Fact x taken → Later None taken)
         → AtEach Fact (places ++ x ∷ []) feeds → AtEach Later places feeds
     each-popped places x feeds step each n taken is =
         elim (eqb_tells n (length places)) [
-          inl h ↦ (let was : Fact x taken = subst (λ y. Fact y taken) (get_or_push places x None n (sym h.1)) (each n taken is) in
+          | inl h ↦ (let was : Fact x taken = subst (λ y. Fact y taken) (get_or_push places x None n (sym h.1)) (each n taken is) in
               let at : get_or places n None ≡ None = get_or_past places n None (omega (arith, h.1)) in
               subst (λ y. Later y taken) (sym at) (step taken was))
-        | inr h ↦ kept (get_or places n None) taken (subst (λ y. Fact y taken) (push_other places x n h.1) (each n taken is))
+          | inr h ↦ kept (get_or places n None) taken (subst (λ y. Fact y taken) (push_other places x n h.1) (each n taken is))
         ]
 
 -- this was taken of the one feed that was added

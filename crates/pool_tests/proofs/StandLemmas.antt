@@ -17,9 +17,9 @@ use Rattle.pool_tests.specs.Scripts.{list_of}
 at_place : (items : List Item) (p : ℕ) (item : Item) → item ≡ get_or items p End
     → (drop p items ≡ item ∷ drop (p + 1) items) ⊎ ((drop p items ≡ []) × (item ≡ End))
 at_place items p item is = elim (cases_lt p (length items)) [
-    inl h ↦ inl (drop_more items p End h ∙ ap (λ x. x ∷ drop (p + 1) items) (sym is))
+  | inl h ↦ inl (drop_more items p End h ∙ ap (λ x. x ∷ drop (p + 1) items) (sym is))
   | inr h ↦ inr (drop_all p items h, is ∙ get_or_past items p End h)
-  ]
+]
 
 -- a row is the next of the list
 row_next : (items : List Item) (p : ℕ) (item : Item) → item ≡ get_or items p End → IsRow item → list_of (drop p items) ≡ item ∷ list_of (drop (p + 1) items)
@@ -106,6 +106,6 @@ stand-new items before now p new none list = record {
 -- a place that is open stands in the list
 pub is-within : (places : List (Option ℕ)) (n : ℕ) → is_some (get_or places n None) ≡ true → n < length places
 is-within places n there = elim (cases_lt n (length places)) [
-    inl h ↦ h
+  | inl h ↦ h
   | inr h ↦ absurd (false≢true (ap is_some (sym (get_or_past places n None h)) ∙ there))
-  ]
+]

@@ -26,5 +26,5 @@ returns-in-Ok-clause-stands g c before feeds stands =
     let told : (f : Files) → g.F.Folder.files pool.folder.now ≡ Some f → feed.leaves c.in-Ok.feed (list_of f hours pool.slots.window c.args.key)
     = λ f e. subst (λ h. feed.leaves c.in-Ok.feed (list_of f h pool.slots.window c.args.key)) kept (c.in-Ok.ensures.leaves f (c.in_ok-hand.ensures.told ∙ e)) in
     rw (files, same, pushed) (stands-added feed.leaves feed.has_ended feed.faults (lists_of (g.F.Folder.files pool.folder.now) hours pool.slots.window)
-        before now slots feeds c.len-number.result c.in-Ok.feed c.args.key count c.in-Ok.ensures.open
-        (told-list (g.F.Folder.files pool.folder.now) hours pool.slots.window c.args.key (feed.leaves c.in-Ok.feed) told) stands)
+    before now slots feeds c.len-number.result c.in-Ok.feed c.args.key count c.in-Ok.ensures.open
+    (told-list (g.F.Folder.files pool.folder.now) hours pool.slots.window c.args.key (feed.leaves c.in-Ok.feed) told) stands)

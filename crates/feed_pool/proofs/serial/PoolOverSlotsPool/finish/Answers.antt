@@ -55,7 +55,7 @@ returns-in-None-clause-follow g c before feeds stands =
     let first = c.args.self.now in
     let feed = g.G.Feed in
     all-follow feed.leaves feed.has_ended feed.faults (lists_of (g.F.Folder.files first.folder.now) (arc_value first.slots.hours) first.slots.window)
-        before (g.F.Folder.faults first.folder.now) first.slots.feeds.items feeds stands
+    before (g.F.Folder.faults first.folder.now) first.slots.feeds.items feeds stands
 
 pub returns-in-None-clause-rose : goal.returns-in-None-clause-rose
 returns-in-None-clause-rose g c before feeds stands =
@@ -64,4 +64,4 @@ returns-in-None-clause-rose g c before feeds stands =
     let feed = g.G.Feed in
     let none : length old.slots.feeds.items ≡ 0 = omega (arith, c.in-None.ensures.cases, old.slots.feeds.ok.0) in
     faults-rose feed.leaves feed.has_ended feed.faults (lists_of (g.F.Folder.files first.folder.now) (arc_value first.slots.hours) first.slots.window)
-        before (g.F.Folder.faults old.folder.now) old.slots.feeds.items feeds none (c.feeds.invariant.stands before feeds stands)
+    before (g.F.Folder.faults old.folder.now) old.slots.feeds.items feeds none (c.feeds.invariant.stands before feeds stands)

@@ -10,9 +10,9 @@ abbrev pub invariant-feeds : goal.invariant-feeds
 invariant-feeds g l = record {
   stands : (before : ℕ) (feeds : Feeds)
       → Stands g.G.Feed.leaves g.G.Feed.has_ended g.G.Feed.faults (lists_of (g.F.Folder.files l.fn.self.folder.now) (arc_value l.fn.self.slots.hours) l.fn.self.slots.window)
-          before (g.F.Folder.faults l.fn.self.folder.now) l.fn.self.slots.feeds.items feeds
+      before (g.F.Folder.faults l.fn.self.folder.now) l.fn.self.slots.feeds.items feeds
       → Stands g.G.Feed.leaves g.G.Feed.has_ended g.G.Feed.faults (lists_of (g.F.Folder.files l.fn.self.folder.now) (arc_value l.fn.self.slots.hours) l.fn.self.slots.window)
-          before (g.F.Folder.faults l.self.folder.now) l.self.slots.feeds.items feeds;
+      before (g.F.Folder.faults l.self.folder.now) l.self.slots.feeds.items feeds;
   files : g.F.Folder.files l.self.folder.now ≡ g.F.Folder.files l.fn.self.folder.now;
   hours : arc_value l.self.slots.hours ≡ arc_value l.fn.self.slots.hours;
   window : l.self.slots.window ≡ l.fn.self.slots.window;

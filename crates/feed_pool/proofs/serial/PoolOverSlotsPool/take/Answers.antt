@@ -17,4 +17,4 @@ returns-clause-stands g c before feeds stands =
     let gave : Gave feed.leaves feed.has_ended feed.faults feed.room (get_or slots c.args.feed.0 None) c.next_of.new.slot c.next_of.result
     = subst (λ x. Gave feed.leaves feed.has_ended feed.faults feed.room x c.next_of.new.slot c.next_of.result) there c.next_of.ensures in
     stands-taken feed.leaves feed.has_ended feed.faults (lists_of (g.F.Folder.files pool.folder.now) (arc_value pool.slots.hours) pool.slots.window)
-        before (g.F.Folder.faults pool.folder.now) feed.room slots feeds c.args.feed.0 c.next_of.new.slot c.next_of.result c.requires gave stands
+    before (g.F.Folder.faults pool.folder.now) feed.room slots feeds c.args.feed.0 c.next_of.new.slot c.next_of.result c.requires gave stands

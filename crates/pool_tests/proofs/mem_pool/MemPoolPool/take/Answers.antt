@@ -24,6 +24,6 @@ returns-clause-stands c before feeds stands =
       each = rw behind (each-taken (Standing items before now) (Standing items before later) (stand-later items before now later c.count_fault.ensures.grows)
           pool.places.items feeds c.args.feed.0 (place_behind item c.in-Some.at) item within
           (λ taken h. stand-taken items before now later c.in-Some.at item taken c.at-item.ensures.item stands.since c.count_fault.ensures.grows c.count_fault.ensures.rose
-            (subst (λ x. Standing items before now x taken) at h))
+          (subst (λ x. Standing items before now x taken) at h))
           stands.each);
     }
