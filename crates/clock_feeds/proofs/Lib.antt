@@ -8,3 +8,4 @@ pub mod FileRowLemmas
 pub mod CoarseLemmas
 pub mod FeedLemmas
 pub mod StandLemmas
+pub mod FileLemmas

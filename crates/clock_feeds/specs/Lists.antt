@@ -2,6 +2,7 @@
 use Rattle.std.specs.Prelude.{◌≡◌, ℕ, ◌+◌, ◌<◌, ◌≤◌, ◌==◌, Bool, true, nat_le, nat_lt, if◌then◌else◌, ℤ, pos, ◌<ℤ◌, ◌≤ℤ◌, List, [], ◌∷◌, ◌++◌, map, filter_map, flat_map, Option, Some, None, option_map, unsigned_abs}
 use Rattle.std.specs.List.{list_all, All}
 use Rattle.std.specs.Option.{option_or}
+use Rattle.lean_fixed.specs.Calendar.{last_day}
 use Rattle.lean_items.specs.declared.bad.Bad.{Bad}
 use Rattle.lean_items.specs.declared.bar.Bar.{Bar}
 use Rattle.lean_items.specs.declared.coarse_row.CoarseRow.{CoarseRow}
@@ -32,6 +33,11 @@ pub record IsSoundRow (start : ℤ) (last : ℕ) (row : ℕ × CoarseRow) : Type
 abbrev pub RowsRise : ℕ → List (ℕ × CoarseRow) → Type 0
 RowsRise after [] = Unit {0}
 RowsRise after (row ∷ rows) = (after ≤ row.0) × RowsRise row.0 rows
+
+-- a malformed line is one of a file that has the number of a day, or is the only one of its feed, which is file 0
+abbrev pub StopsInFile : Option Bad → Type 0
+StopsInFile None = Unit {0}
+StopsInFile (Some bad) = bad.file ≤ last_day
 
 -- rows, and behind them the malformed line or the end
 pub record IsWhole (list : List Item) : Type 0 where

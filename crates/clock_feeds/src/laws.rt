@@ -24,7 +24,7 @@ ghost use Rattle.clock_feeds.specs.Bars.{Filling, end_of, bar_at, blocked};
 ghost use Rattle.clock_feeds.specs.Feeds.{last_item, items_from, coarse_items, bars_of, coarse_of, rows, feed};
 ghost use Rattle.clock_feeds.specs.Slices.{Source, source, bars_at, blocked_at, slice, refused, coarse_at};
 ghost use Rattle.clock_feeds.specs.Stands.{EndBy, Rises};
-ghost use Rattle.clock_feeds.specs.Lists.{IsSound, IsSoundRow, RowsRise, IsWhole, EndsWithin, IsNextBar, IsAtEnd, bar_ending, bars_ending, rows_ending, is_by, is_before, blocked_in, list_of, bars_in, bad_in, slice_in, refused_in, EndInWindows};
+ghost use Rattle.clock_feeds.specs.Lists.{IsSound, IsSoundRow, RowsRise, StopsInFile, IsWhole, EndsWithin, IsNextBar, IsAtEnd, bar_ending, bars_ending, rows_ending, is_by, is_before, blocked_in, list_of, bars_in, bad_in, slice_in, refused_in, EndInWindows};
 
 /// The kept bars of a security end past the start of its feed, one past the other, and not past the end of the window, and
 /// their numbers are in their ranges.
@@ -54,6 +54,14 @@ pub fn kept_rows_are_sound()
     ensures rise { (files : Files) (hours : Entries) (window : Window) (key : FeedKey)
         → IsWindow window → key.kind ≡ Coarse
         → RowsRise 0 (coarse_of files hours window key).rows }
+{}
+
+/// The malformed line at which a security's feed ends is one of a file that has a number.
+pub fn malformed_lines_have_files()
+    ensures { (files : Files) (hours : Entries) (window : Window) (key : FeedKey)
+        (symbol : List ℕ) (resolution : Resolution) → IsWindow window
+        → key.kind ≡ Equity symbol resolution
+        → StopsInFile (bars_of files hours window key symbol resolution).stop }
 {}
 
 /// A list is rows and behind them one last item, a malformed line or the end.
