@@ -6,3 +6,4 @@ pub mod SliceLemmas
 pub mod RisingLemmas
 pub mod ListLemmas
 pub mod StandLemmas
+pub mod FirstLemmas

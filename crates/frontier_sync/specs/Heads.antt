@@ -64,3 +64,11 @@ earlier (Some first) (Some second) = Some (if int_lt second.0 first.0 then secon
 -- each feed whose head is a row is open
 abbrev pub AreOpen : (ℕ → Bool) → List Arrival → Type 0
 AreOpen is_open heads = All (λ a. IsRow a.item → is_open a.feed.0 ≡ true) heads
+
+-- a last item, or a row that ends past the start of its feed
+abbrev pub ends_past : ℤ → Item → Bool
+ends_past start (Bar bar) = int_lt start bar.end.0
+ends_past start (Coarse at row) = int_lt start at.0
+ends_past start (Bad bad) = true
+ends_past start Faulted = true
+ends_past start End = true

@@ -4,10 +4,12 @@
 #![tactic(auto)]
 
 mod ends;
+mod first;
 mod fits;
 mod heads;
 pub mod laws;
 mod places;
 mod refill;
 
+pub use first::first_head;
 pub use heads::Heads;

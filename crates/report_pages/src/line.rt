@@ -1,5 +1,5 @@
 //! The lines of a tape.
-ghost use Rattle.std.specs.Prelude.{◌≡◌, ◌+◌, ◌≤◌, ◌≤ℤ◌, ◌++◌, pos, length, drop, decimal, unsigned_abs, OnOk, IfOk, string_bytes};
+ghost use Rattle.std.specs.Prelude.{◌≡◌, ◌+◌, ◌≤◌, ◌++◌, length, drop, decimal, unsigned_abs, OnOk, IfOk, string_bytes};
 ghost use Rattle.lean_fixed.specs.Calendar.{last_day};
 ghost use Rattle.lean_fixed.specs.Printed.{money_text};
 ghost use Rattle.feed_paths.specs.Paths.{path_of};
@@ -17,8 +17,8 @@ use std::alloc::Global;
 /// The most bytes of the line of a row: what it begins with, a symbol, four prices, a volume, a space before each, and an LF.
 const LONGEST: usize = 16 + 13 + 4 * 22 + 21 + 1;
 
-/// Appends the line of a row behind its front, which is a day or a moment. The volume is not negative. The line is written
-/// into one array, from its end on.
+/// Appends the line of a row behind its front, which is a day or a moment. The line is written into one array, from its end
+/// on.
 pub fn append_row(
     front: &[u8],
     symbol: &Symbol,
@@ -26,7 +26,6 @@ pub fn append_row(
     page: &mut Vec<u8>,
 ) -> Result<(), NoMemory>
     requires front { length front.now ≤ 16 }
-    requires volume { pos 0 ≤ℤ trades.now.volume.0 }
     ensures { OnOk result
         (page.new.items ≡ page.old.items ++ row_line front.now symbol.now trades.now) }
 {
@@ -153,8 +152,7 @@ fn append_part(text: &[u8], page: &mut Vec<u8>) -> Result<(), NoMemory>
 }
 
 fn volume_of(trades: &Trades) -> u64
-    requires { pos 0 ≤ℤ trades.now.volume.0 }
     ensures { result ≡ unsigned_abs trades.now.volume.0 }
 {
-    trades.volume.0 as u64
+    trades.volume.0.unsigned_abs()
 }

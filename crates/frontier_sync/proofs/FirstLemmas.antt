@@ -1,0 +1,31 @@
+-- The first head of a feed.
+use Rattle.std.proofs.Common.{◌≡◌, true, false, ℤ, ◌≤ℤ◌, ◌+ℤ◌, pos, sym, ◌∙◌, arith, refl}
+use Rattle.std.specs.Prelude.{int_lt}
+use Rattle.std.proofs.lemmas.Bool.{true≢false}
+use Rattle.std.proofs.lemmas.Int.{ints}
+use Rattle.lean_items.specs.declared.item.Item.{Item}
+use Rattle.lean_items.specs.declared.item.Item.TheVariants.{Bar, Coarse, Bad, Faulted, End}
+use Rattle.lean_items.specs.Given.{IsRow, end_of}
+use Rattle.frontier_sync.specs.Heads.{ends_past, EndsFrom}
+
+-- what is passed over is a row
+pub passed-row : (start : ℤ) (item : Item) → ends_past start item ≡ false → IsRow item
+passed-row start (Bar bar) h = refl
+passed-row start (Coarse at row) h = refl
+passed-row start (Bad bad) h = absurd (true≢false h)
+passed-row start Faulted h = absurd (true≢false h)
+passed-row start End h = absurd (true≢false h)
+
+-- a first head ends at the next moment or later
+pub past-from : (start : ℤ) (item : Item) → ends_past start item ≡ true → EndsFrom (start +ℤ pos 1) (end_of item)
+past-from start (Bar bar) h = after start bar.end.0 h
+  where
+    after : (s e : ℤ) → int_lt s e ≡ true → (s +ℤ pos 1) ≤ℤ e
+    after s e lt = grind (arith, ints)
+past-from start (Coarse at row) h = after start at.0 h
+  where
+    after : (s e : ℤ) → int_lt s e ≡ true → (s +ℤ pos 1) ≤ℤ e
+    after s e lt = grind (arith, ints)
+past-from start (Bad bad) h = tt
+past-from start Faulted h = tt
+past-from start End h = tt
