@@ -4,11 +4,11 @@ ghost use Rattle.lean_fixed.specs.Ranges.{IsMoment, IsWindow};
 ghost use Rattle.lean_io.specs.Told.{Files};
 ghost use Rattle.clock_feeds.specs.Feeds.{feed as feed_list};
 
-use crate::refused::Refused;
 use exchange_hours::Hours;
 use lean_fixed::Window;
 use lean_io::Hand;
 use lean_items::{Feed, FeedKey};
+use row_feed::Refused;
 use std::alloc::Global;
 use std::sync::Arc;
 

@@ -3,12 +3,13 @@
 //! finished.
 #![tactic(auto)]
 
+mod filled;
 mod hand_feed;
 mod pool_over;
-mod refused;
 mod serial;
 mod slots;
 
 pub use hand_feed::HandFeed;
 pub use pool_over::PoolOver;
+pub use serial::SerialPool;
 pub use slots::Slots;

@@ -6,11 +6,15 @@ use crate::hand_feed::HandFeed;
 use crate::pool_over::PoolOver;
 use crate::slots::{Slots, next_of};
 use exchange_hours::Hours;
+use fill_forward::FilledFeed;
 use lean_fixed::{NoMemory, Window};
 use lean_io::Folder;
 use lean_items::{Feed, FeedKey, FeedNo, Finished, Item, Pool};
 use std::alloc::Global;
 use std::sync::Arc;
+
+/// The pool of the feeds of a folder's files, on one thread.
+pub type SerialPool<'a, F> = PoolOver<'a, F, Slots<FilledFeed<<F as Folder>::H>>>;
 
 impl<'a, F: Folder, G: HandFeed<F::H>> PoolOver<'a, F, Slots<G>> {
     ghost use Rattle.std.specs.Prelude.{◌≡◌, IfOk, IsOk};
