@@ -1,0 +1,5 @@
+pub mod Session
+pub mod Shown
+pub mod Whole
+pub mod Walked
+pub mod Reports

@@ -1,0 +1,24 @@
+use lean_fixed::Symbol;
+use lean_items::Bad;
+
+/// How the bars of a session tape ended.
+#[derive(Clone, Copy)]
+pub enum Ending {
+    /// All bars were printed: their number.
+    Whole(u64),
+    /// A malformed line of a symbol's files is due.
+    Refused(Symbol, Bad),
+    /// A read failed.
+    Faulted,
+}
+
+/// How a session tape ended.
+#[derive(Clone, Copy, Debug, PartialEq, Eq)]
+pub enum Ended {
+    /// It is whole.
+    Done,
+    /// It names a malformed line.
+    BadRow,
+    /// A read failed; the bars of whole minutes were printed.
+    ReadFault,
+}
