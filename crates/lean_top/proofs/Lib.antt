@@ -12,3 +12,4 @@ pub mod WindowLemmas
 pub mod Reporting
 pub mod SourceLemmas
 pub mod Running
+pub mod SessionLemmas

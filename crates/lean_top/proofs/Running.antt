@@ -6,6 +6,8 @@ use Rattle.lean_fixed.specs.declared.time.Window.{Window}
 use Rattle.lean_io.specs.Told.{Files, Rose}
 use Rattle.exchange_hours.specs.Entries.{Entries}
 use Rattle.clock_steps.specs.Runs.{Ran}
+use Rattle.session_tape.specs.Reports.{ended_by}
+use Rattle.session_tape.specs.Session.{SessionBar, Refusal as SessionRefusal, session_sources, session}
 use Rattle.lean_top.specs.declared.status.Status.{Status}
 use Rattle.lean_top.specs.declared.status.Status.TheVariants.{Done, Usage, Algorithm, BadRow, ReadFault, WriteFault, NoMemory, Limit}
 use Rattle.lean_top.specs.Command.{Asked, DailyTape, SessionTape, command}
@@ -14,9 +16,8 @@ use Rattle.lean_top.specs.DailyTape.{Refusal, securities, tape, tape_text, last_
 use Rattle.lean_top.specs.Ending.{Seen, IsStop, Meets, IsComplete, ComesExactly, RefusesHours, StopsSession, HasBadRow, PrintsWholeSteps, HasRun}
 use Rattle.lean_top.specs.HoursRead.{hours_file}
 use Rattle.lean_top.specs.Outcome.{HasReported, HasTaped, HasUsage, HasStatusCause, NamesNoUsage}
-use Rattle.lean_top.specs.SessionTape.{SessionBar, SessionRefusal, session_sources, session, session_last}
 use Rattle.report_pages.specs.Printed.{IsTaken, IsFront}
-use Rattle.lean_top.specs.Report.{report, report_of, session_with, AreWholeSteps}
+use Rattle.lean_top.specs.Report.{report, report_of, ended_status, session_with, AreWholeSteps}
 use Rattle.lean_top.proofs.Reporting.{rows_at_stop, text_behind}
 
 -- the sink took the whole report and the status is the report's, or it took a front of it and the status is a stop
@@ -37,18 +38,17 @@ no_hours : (rows : ℕ) (stop : Option Refusal) → (last_line rows stop).1 ≡ 
 no_hours rows (Some refusal) e = cc
 no_hours rows None e = cc
 
-module _ (resolution : Resolution) where
-  bad_session : (rows : ℕ) (stop : Option SessionRefusal) → (session_last resolution rows stop).1 ≡ BadRow → IsSome stop
-  bad_session rows (Some refusal) e = refl
-  bad_session rows None e = cc
+bad_session : (stop : Option SessionRefusal) → ended_status (ended_by stop) ≡ BadRow → IsSome stop
+bad_session (Some refusal) e = refl
+bad_session None e = cc
 
-  session_bad : (rows : ℕ) (stop : Option SessionRefusal) → IsSome stop → (session_last resolution rows stop).1 ≡ BadRow
-  session_bad rows (Some refusal) some = refl
-  session_bad rows None some = cc
+session_bad : (stop : Option SessionRefusal) → IsSome stop → ended_status (ended_by stop) ≡ BadRow
+session_bad (Some refusal) some = refl
+session_bad None some = cc
 
-  session_no_hours : (rows : ℕ) (stop : Option SessionRefusal) → (session_last resolution rows stop).1 ≡ Algorithm → ⊥
-  session_no_hours rows (Some refusal) e = cc
-  session_no_hours rows None e = cc
+session_no_hours : (stop : Option SessionRefusal) → ended_status (ended_by stop) ≡ Algorithm → ⊥
+session_no_hours (Some refusal) e = cc
+session_no_hours None e = cc
 
 module _ (files : Files) (resolution : Resolution) (window : Window) (symbols : List (List ℕ)) where
   abbrev whole : Entries → Ran (Unit {0}) SessionBar SessionRefusal
@@ -56,7 +56,7 @@ module _ (files : Files) (resolution : Resolution) (window : Window) (symbols : 
 
   session_refuses : (hours : Result Entries (List ℕ)) → (session_with files resolution window symbols hours).1 ≡ Algorithm → IsErr hours
   session_refuses (Err word) e = refl
-  session_refuses (Ok hours) e = absurd (session_no_hours resolution (length (whole hours).lines) (whole hours).stop e)
+  session_refuses (Ok hours) e = absurd (session_no_hours (whole hours).stop e)
 
   refuses_session : (hours : Result Entries (List ℕ)) → IsErr hours → (session_with files resolution window symbols hours).1 ≡ Algorithm
   refuses_session (Err word) e = refl
@@ -64,11 +64,11 @@ module _ (files : Files) (resolution : Resolution) (window : Window) (symbols : 
 
   session_stops : (hours : Result Entries (List ℕ)) → (session_with files resolution window symbols hours).1 ≡ BadRow → StopsSession files resolution window symbols hours
   session_stops (Err word) e = cc
-  session_stops (Ok hours) e = bad_session resolution (length (whole hours).lines) (whole hours).stop e
+  session_stops (Ok hours) e = bad_session (whole hours).stop e
 
   stops_session : (hours : Result Entries (List ℕ)) → StopsSession files resolution window symbols hours → (session_with files resolution window symbols hours).1 ≡ BadRow
   stops_session (Err word) e = absurd e
-  stops_session (Ok hours) e = session_bad resolution (length (whole hours).lines) (whole hours).stop e
+  stops_session (Ok hours) e = session_bad (whole hours).stop e
 
 module _ (files : Files) where
   report_refuses : (asked : Option Asked) → (report_of files asked).1 ≡ Algorithm → RefusesHours files asked

@@ -5,12 +5,12 @@ use Rattle.lean_fixed.specs.declared.time.Window.{Window}
 use Rattle.lean_io.specs.Told.{Files, Rose}
 use Rattle.exchange_hours.specs.Entries.{Entries}
 use Rattle.clock_steps.specs.Runs.{IsFrontOf}
+use Rattle.session_tape.specs.Session.{session_sources, session}
 use Rattle.lean_top.specs.declared.status.Status.{Status}
 use Rattle.lean_top.specs.declared.status.Status.TheVariants.{Usage, Algorithm, BadRow, ReadFault, WriteFault, NoMemory}
 use Rattle.lean_top.specs.Command.{Asked, DailyTape, SessionTape, command}
 use Rattle.lean_top.specs.DailyTape.{securities, tape}
 use Rattle.lean_top.specs.HoursRead.{hours_file}
-use Rattle.lean_top.specs.SessionTape.{session_sources, session}
 use Rattle.lean_top.specs.Report.{report, AreWholeSteps}
 
 -- What is seen of a folder and a sink at one time: the files, where the folder tells them, the bytes, where the sink tells

@@ -11,7 +11,6 @@ pub mod Whole
 pub mod Endings
 pub mod HoursRead
 pub mod HoursGiven
-pub mod SessionTape
 pub mod Report
 pub mod Ending
 pub mod Outcome

@@ -1,13 +1,15 @@
 -- What the parts of a command have printed, and why they ended.
-use Rattle.std.specs.Prelude.{◌≡◌, ℕ, List, Option, Some, codes}
+use Rattle.std.specs.Prelude.{◌≡◌, ℕ, List, Option, Some, codes, Result, Ok, Err}
 use Rattle.lean_io.specs.Told.{Files, Rose}
 use Rattle.clock_steps.specs.Runs.{IsFrontOf}
 use Rattle.report_pages.specs.declared.pages.Stop.{Stop}
 use Rattle.report_pages.specs.declared.pages.Stop.TheVariants.{NoMemory as OutOfMemory, WriteFault as FailedWrite}
 use Rattle.lean_top.specs.declared.status.Status.{Status}
 use Rattle.lean_top.specs.declared.status.Status.TheVariants.{Done, Usage, Algorithm, BadRow, ReadFault, WriteFault, NoMemory, Limit}
+use Rattle.session_tape.specs.declared.ending.Ended.{Ended}
 use Rattle.lean_top.specs.DailyTape.{Security}
 use Rattle.lean_top.specs.Endings.{IsTapeReport, IsTapeFront}
+use Rattle.lean_top.specs.Report.{ended_status}
 use Rattle.report_pages.specs.Printed.{IsTaken, IsFront}
 
 -- the status of a stop
@@ -55,3 +57,15 @@ abbrev pub HasTapeCause : Type 0 → ℕ → ℕ → Status → Type 0
 HasTapeCause faulted sink sink_now ReadFault = faulted
 HasTapeCause faulted sink sink_now WriteFault = Rose sink sink_now
 HasTapeCause faulted sink sink_now _ = Unit {0}
+
+-- the status of a session tape, by how it ended
+abbrev pub session_status : Result Ended Stop → Status
+session_status (Ok ended) = ended_status ended
+session_status (Err stop) = stop_status stop
+
+-- what the sink took of the line that refuses a file
+abbrev pub HasRefused : List ℕ → Option (List ℕ) → Option (List ℕ) → Status → Type 0
+HasRefused line before after Algorithm = IsTaken before after line
+HasRefused line before after NoMemory = IsFront before after line
+HasRefused line before after WriteFault = IsFront before after line
+HasRefused line before after _ = ⊥

@@ -4,13 +4,28 @@ use Rattle.lean_fixed.specs.declared.resolution.Resolution.{Resolution}
 use Rattle.lean_fixed.specs.declared.time.Window.{Window}
 use Rattle.lean_io.specs.Told.{Files}
 use Rattle.exchange_hours.specs.Entries.{Entries}
+use Rattle.clock_feeds.specs.Slices.{Source}
+use Rattle.clock_steps.specs.Runs.{Ran}
+use Rattle.session_tape.specs.declared.ending.Ended.{Ended}
+use Rattle.session_tape.specs.declared.ending.Ended.TheVariants as ended
+use Rattle.session_tape.specs.Reports.{ended_by}
+use Rattle.session_tape.specs.Session.{SessionBar, Refusal, session_sources, session, session_text, session_bytes}
+use Rattle.session_tape.specs.Whole.{IsWhole as IsWholeSession}
 use Rattle.lean_top.specs.declared.status.Status.{Status}
-use Rattle.lean_top.specs.declared.status.Status.TheVariants.{Usage, Algorithm}
+use Rattle.lean_top.specs.declared.status.Status.TheVariants.{Done, Usage, Algorithm, BadRow, ReadFault}
 use Rattle.lean_top.specs.Command.{Asked, DailyTape, SessionTape, command}
 use Rattle.lean_top.specs.DailyTape.{TapeRow, securities, tape_text, tape_report}
 use Rattle.lean_top.specs.HoursRead.{hours_file, hours_line}
-use Rattle.lean_top.specs.SessionTape.{SessionBar, session_sources, session, session_minutes, session_text, session_report_of}
-use Rattle.lean_top.specs.Whole.{IsWhole, IsWholeSession}
+use Rattle.lean_top.specs.Whole.{IsWhole}
+
+-- the status of a session tape
+abbrev pub ended_status : Ended → Status
+ended_status ended.Done = Done
+ended_status ended.BadRow = BadRow
+ended_status ended.ReadFault = ReadFault
+
+abbrev pub session_report_of : Resolution → Ran (Unit {0}) SessionBar Refusal → List ℕ × Status
+session_report_of resolution ran = (session_bytes resolution ran, ended_status (ended_by ran.stop))
 
 -- the session tape, with the hours where their file is read, or the line that refuses it
 abbrev pub session_with : Files → Resolution → Window → List (List ℕ) → Result Entries (List ℕ) → List ℕ × Status
@@ -26,11 +41,13 @@ report_of files (Some (SessionTape resolution window symbols)) = session_with fi
 abbrev pub report : Files → List (List ℕ) → List ℕ × Status
 report files words = report_of files (command words)
 
--- bytes that are the lines of whole steps of a session tape, of all moments up to some one
+-- bytes that are the lines of whole minutes of a session tape, of all moments up to some one
+abbrev pub AreMinutesBy : List (List ℕ × Source) → Window → List ℕ → Type 0
+AreMinutesBy sources window bytes = (bars : List SessionBar) × IsWholeSession sources window bars × (bytes ≡ session_text bars)
+
 abbrev pub AreMinutes : Files → Resolution → Window → List (List ℕ) → Result Entries (List ℕ) → List ℕ → Type 0
 AreMinutes files resolution window symbols (Err word) bytes = ⊥
-AreMinutes files resolution window symbols (Ok hours) bytes =
-    (bars : List SessionBar) × IsWholeSession (session_sources files hours resolution window symbols) window bars × (bytes ≡ session_text bars)
+AreMinutes files resolution window symbols (Ok hours) bytes = AreMinutesBy (session_sources files hours resolution window symbols) window bytes
 
 -- bytes that are the lines of whole steps of a report: of the first days of the daily tape, or of the first minutes of the
 -- session tape, or nothing

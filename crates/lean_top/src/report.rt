@@ -2,7 +2,7 @@
 ghost use Rattle.std.specs.Prelude.{◌≡◌, ◌≤◌, List, ℕ, Some, None, map, length, string_bytes};
 ghost use Rattle.std.specs.List.{AllByRecursion, AllZip};
 ghost use Rattle.lean_io.specs.Told.{Files, Rose};
-ghost use Rattle.lean_top.specs.Asked.{asked_by, AsksFew};
+ghost use Rattle.lean_top.specs.Asked.{asked_by, IsAsked};
 ghost use Rattle.lean_top.specs.Command.{Asked, command};
 ghost use Rattle.lean_top.specs.DailyTape.{Security, securities};
 ghost use Rattle.lean_top.specs.Endings.{HasFaulted};
@@ -56,7 +56,7 @@ fn run_command<F: Folder, S: Sink>(
     folder: &mut F,
     out: &mut S,
 ) -> Status
-    requires { AsksFew command.now }
+    requires { IsAsked command.now }
     ensures reported { (f : Files) → F.files folder.old ≡ Some f
         → HasReported (report_of f (Some (asked_by command.now))) (AreWholeSteps f (Some (asked_by command.now)))
         (S.told out.old) (S.told out.new) result }

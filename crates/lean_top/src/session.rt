@@ -1,15 +1,28 @@
 //! The session tape: the bars of minute, hour or daily files that are in session, by their ends and then in the order of the
-//! words.
-ghost use Rattle.std.specs.Prelude.{◌≡◌, ◌≤◌, Some, length};
-ghost use Rattle.lean_io.specs.Told.{Files};
+//! words, behind the hours file.
+ghost use Rattle.std.specs.Prelude.{◌≡◌, ◌≤◌, ◌++◌, [], ◌∷◌, codes, Some, None, length, IfOk};
+ghost use Rattle.std.specs.Arc.{arc_value};
+ghost use Rattle.exchange_hours.specs.Sessions.{LieInDays};
+ghost use Rattle.lean_io.specs.Told.{Files, Rose};
+ghost use Rattle.session_tape.specs.Session.{session_sources, session};
+ghost use Rattle.lean_top.specs.Asked.{IsInOrder};
 ghost use Rattle.lean_top.specs.Command.{SessionTape};
-ghost use Rattle.lean_top.specs.Outcome.{HasReported, HasStatusCause, NamesNoUsage};
-ghost use Rattle.lean_top.specs.Report.{report_of, AreWholeSteps};
+ghost use Rattle.lean_top.specs.HoursRead.{hours_line};
+ghost use Rattle.lean_top.specs.Outcome.{HasReported, HasRefused, HasStatusCause, NamesNoUsage, session_status};
+ghost use Rattle.lean_top.specs.Report.{report_of, session_report_of, AreWholeSteps, AreMinutesBy};
 
+use crate::hours::{HoursRead, read_hours};
 use crate::status::Status;
-use lean_fixed::{Resolution, Symbol, Window};
-use lean_io::{Folder, Sink};
+use exchange_hours::Hours;
+use exchange_hours::laws::sessions_lie;
+use feed_pool::SerialPool;
+use lean_fixed::{NoMemory, Resolution, Symbol, Window};
+use lean_io::{Folder, Sink, WriteFault, write_whole};
+use report_pages::Stop;
+use session_tape::laws::minutes_are_a_front;
+use session_tape::{Ended, print_session};
 use std::alloc::Global;
+use std::sync::Arc;
 
 /// Prints the session tape of the securities, or the line that refuses the hours file.
 pub fn session_tape<F: Folder, S: Sink>(
@@ -20,7 +33,8 @@ pub fn session_tape<F: Folder, S: Sink>(
     folder: &mut F,
     out: &mut S,
 ) -> Status
-    requires { length symbols.now ≤ 64 }
+    requires few { length symbols.now ≤ 64 }
+    requires window { IsInOrder window }
     ensures reported { (f : Files) → F.files folder.old ≡ Some f
         → HasReported (report_of f (Some (SessionTape resolution window symbols.now)))
         (AreWholeSteps f (Some (SessionTape resolution window symbols.now))) (S.told out.old) (S.told out.new) result }
@@ -31,5 +45,114 @@ pub fn session_tape<F: Folder, S: Sink>(
     ensures folder_grows { F.faults folder.old ≤ F.faults folder.new }
     ensures sink_grows { S.faults out.old ≤ S.faults out.new }
 {
-    Status::NoMemory
+    match read_hours(alloc, folder) {
+        Ok(HoursRead::Read(hours)) => {
+            tape_by(alloc, hours, resolution, window, symbols, folder, out)
+        }
+        Ok(HoursRead::Refused(word)) => print_refusal(alloc, word, out),
+        Ok(HoursRead::Faulted) => Status::ReadFault,
+        Err(NoMemory) => Status::NoMemory,
+    }
+}
+
+// Prints the tape by the hours of the exchange.
+fn tape_by<F: Folder, S: Sink>(
+    alloc: Global,
+    hours: Hours,
+    resolution: Resolution,
+    window: Window,
+    symbols: &[Symbol],
+    folder: &mut F,
+    out: &mut S,
+) -> Status
+    requires few { length symbols.now ≤ 64 }
+    requires window { IsInOrder window }
+    ensures reported { (f : Files) → F.files folder.old ≡ Some f
+        → HasReported (session_report_of resolution (session (session_sources f hours resolution window symbols.now) window))
+        (AreMinutesBy (session_sources f hours resolution window symbols.now) window)
+        (S.told out.old) (S.told out.new) result }
+    ensures taken { NamesNoUsage result }
+    ensures cause { HasStatusCause (F.faults folder.old) (F.faults folder.new)
+        (S.faults out.old) (S.faults out.new) result }
+    ensures kept { F.files folder.new ≡ F.files folder.old }
+    ensures folder_grows { F.faults folder.old ≤ F.faults folder.new }
+    ensures sink_grows { S.faults out.old ≤ S.faults out.new }
+{
+    match Arc::new(alloc, hours) {
+        Ok(hours) => tape_over(alloc, hours, resolution, window, symbols, folder, out),
+        Err(_) => Status::NoMemory,
+    }
+}
+
+// Prints the tape over the feeds of the folder's files.
+fn tape_over<F: Folder, S: Sink>(
+    alloc: Global,
+    hours: Arc<Hours>,
+    resolution: Resolution,
+    window: Window,
+    symbols: &[Symbol],
+    folder: &mut F,
+    out: &mut S,
+) -> Status
+    requires few { length symbols.now ≤ 64 }
+    requires window { IsInOrder window }
+    ensures reported { (f : Files) → F.files folder.old ≡ Some f
+        → HasReported
+        (session_report_of resolution (session (session_sources f (arc_value hours) resolution window symbols.now) window))
+        (AreMinutesBy (session_sources f (arc_value hours) resolution window symbols.now) window)
+        (S.told out.old) (S.told out.new) result }
+    ensures taken { NamesNoUsage result }
+    ensures cause { HasStatusCause (F.faults folder.old) (F.faults folder.new)
+        (S.faults out.old) (S.faults out.new) result }
+    ensures kept { F.files folder.new ≡ F.files folder.old }
+    ensures folder_grows { F.faults folder.old ≤ F.faults folder.new }
+    ensures sink_grows { S.faults out.old ≤ S.faults out.new }
+{
+    sessions_lie(&hours);
+    minutes_are_a_front();
+    match SerialPool::new(alloc, folder, window, hours) {
+        Ok(mut pool) => {
+            let ended = print_session(alloc, &mut pool, resolution, window, symbols, out);
+            status_of(ended)
+        }
+        Err(NoMemory) => Status::NoMemory,
+    }
+}
+
+fn status_of(ended: Result<Ended, Stop>) -> Status
+    ensures { result ≡ session_status ended }
+{
+    match ended {
+        Ok(Ended::Done) => Status::Done,
+        Ok(Ended::BadRow) => Status::BadRow,
+        Ok(Ended::ReadFault) => Status::ReadFault,
+        Err(Stop::NoMemory) => Status::NoMemory,
+        Err(Stop::WriteFault) => Status::WriteFault,
+    }
+}
+
+// Prints the line that refuses the hours file.
+fn print_refusal<S: Sink>(alloc: Global, word: &str, out: &mut S) -> Status
+    ensures refused { HasRefused (hours_line word.now) (S.told out.old) (S.told out.new) result }
+    ensures cause { result ≡ Status.WriteFault → Rose (S.faults out.old) (S.faults out.new) }
+    ensures grows { S.faults out.old ≤ S.faults out.new }
+{
+    match refusal_text(alloc, word) {
+        Ok(text) => match write_whole(out, &text) {
+            Ok(()) => Status::Algorithm,
+            Err(WriteFault) => Status::WriteFault,
+        },
+        Err(NoMemory) => Status::NoMemory,
+    }
+}
+
+#[tactic(auto, unfolding(crate::specs::HoursRead::hours_line))]
+fn refusal_text(alloc: Global, word: &str) -> Result<Vec<u8>, NoMemory>
+    ensures { IfOk result (λ text. text.items ≡ hours_line word.now) }
+{
+    let mut text = Vec::new(alloc);
+    text.extend_from_slice(b"hours ")?;
+    text.extend_from_slice(word.as_bytes())?;
+    text.push(b'\n')?;
+    Ok(text)
 }

@@ -1,10 +1,10 @@
 //! The words of a command line, read by hand.
-ghost use Rattle.std.specs.Prelude.{◌≡◌, ◌≤◌, ◌&&◌, nat_le, if◌then◌else◌, None, Some, unsigned_abs, IfOk, IfSome, map, length, option_map, string_bytes};
+ghost use Rattle.std.specs.Prelude.{◌≡◌, ◌<◌, ◌≤◌, ◌&&◌, nat_le, if◌then◌else◌, None, Some, unsigned_abs, IfOk, IfSome, map, length, option_map, string_bytes};
 ghost use Rattle.std.specs.List.{list_all};
 ghost use Rattle.lean_fixed.specs.Calendar.{last_day};
 ghost use Rattle.lean_fixed.specs.Ranges.{IsDay};
 ghost use Rattle.lean_fixed.specs.Symbol.{is_symbol};
-ghost use Rattle.lean_top.specs.Asked.{asked_by, AsksFew};
+ghost use Rattle.lean_top.specs.Asked.{asked_by, IsAsked, IsInOrder};
 ghost use Rattle.lean_top.specs.Command.{command, all_differ, symbols_of, resolution_of, window_day, window_from, window_of, session_words};
 
 use lean_fixed::ranges::LAST_DAY;
@@ -27,7 +27,7 @@ pub enum Command {
 pub fn read_words(alloc: Global, words: &[String]) -> Result<Option<Command>, NoMemory>
     ensures asked { IfOk result
         (λ found. option_map asked_by found ≡ command (map string_bytes words.now)) }
-    ensures few { IfOk result (λ found. IfSome found AsksFew) }
+    ensures few { IfOk result (λ found. IfSome found IsAsked) }
 {
     let Some((name, rest)) = words.split_first() else {
         return Ok(None);
@@ -46,7 +46,7 @@ pub fn read_words(alloc: Global, words: &[String]) -> Result<Option<Command>, No
 fn read_session(alloc: Global, words: &[String]) -> Result<Option<Command>, NoMemory>
     ensures asked { IfOk result
         (λ found. option_map asked_by found ≡ session_words (map string_bytes words.now)) }
-    ensures few { IfOk result (λ found. IfSome found AsksFew) }
+    ensures few { IfOk result (λ found. IfSome found IsAsked) }
 {
     let Some((resolution, rest)) = words.split_first() else {
         return Ok(None);
@@ -88,7 +88,8 @@ fn read_resolution(word: &[u8]) -> Option<Resolution>
 
 // The window from one day to another, which does not lie before it.
 fn read_window(first: &[u8], last: &[u8]) -> Option<Window>
-    ensures { result ≡ window_of (window_day first.now) (window_day last.now) }
+    ensures value { result ≡ window_of (window_day first.now) (window_day last.now) }
+    ensures range { IfSome result IsInOrder }
 {
     let Some(first) = read_window_day(first) else {
         return None;
@@ -105,7 +106,7 @@ fn read_window(first: &[u8], last: &[u8]) -> Option<Window>
 // A day from 19700102 to 21991230, as days since 1970-01-01.
 fn read_window_day(word: &[u8]) -> Option<u32>
     ensures value { result ≡ window_day word.now }
-    ensures range { IfSome result (λ day. day ≤ last_day) }
+    ensures range { IfSome result (λ day. (1 ≤ day) × (day < last_day)) }
 {
     let Some(day) = Day::read(word) else {
         return None;
@@ -128,9 +129,10 @@ fn number_of(day: Day) -> u32
 }
 
 fn window_from(first: u32, last: u32) -> Window
-    requires first { first ≤ last_day }
-    requires last { last ≤ last_day }
-    ensures { result ≡ window_from first last }
+    requires first { (1 ≤ first) × (first < last_day) }
+    requires last { (first ≤ last) × (last < last_day) }
+    ensures value { result ≡ window_from first last }
+    ensures range { IsInOrder result }
 {
     Window {
         first: Day(first as i32),

@@ -72,7 +72,7 @@ module _ (resolution : Resolution) (window : Window) (sources : List (List ℕ �
 
   -- ---- a front
 
-  bars_front : (bars : List SessionBar) (ending : Ending) → EndsSo sources window bars ending → IsFrontOf bars (session sources window).lines
+  pub bars_front : (bars : List SessionBar) (ending : Ending) → EndsSo sources window bars ending → IsFrontOf bars (session sources window).lines
   bars_front bars (Whole count) (ends, counted) = record { rest = []; is = ap (λ r. r.lines) ends ∙ sym (append-nil bars) }
   bars_front bars (Refused symbol bad) (ends, small) = record { rest = []; is = ap (λ r. r.lines) ends ∙ sym (append-nil bars) }
   bars_front bars Faulted whole =
@@ -84,7 +84,7 @@ module _ (resolution : Resolution) (window : Window) (sources : List (List ℕ �
         is = sym (ap (λ n. (session_minutes sources window n).lines) count) ∙ front.is ∙ ap (λ r. r ++ front.rest) (sym whole.is);
       }
 
-  text_behind : (bars : List SessionBar) → IsFrontOf bars (session sources window).lines
+  pub text_behind : (bars : List SessionBar) → IsFrontOf bars (session sources window).lines
       → (more : List ℕ) × (session_bytes resolution (session sources window) ≡ session_text bars ++ more)
   text_behind bars front =
       let last = last_line resolution (length (session sources window).lines) (session sources window).stop in (
@@ -128,3 +128,10 @@ cut_short resolution window sources told new front =
 pub if_ok : {A E : Type 0} (r : Result A E) (P Q : A → Type 0) → ((x : A) → P x → Q x) → IfOk r P → IfOk r Q
 if_ok (Ok x) P Q f h = f x h
 if_ok (Err e) P Q f h = tt
+
+-- the lines of whole minutes come first
+pub minutes_front : (resolution : Resolution) (window : Window) (sources : List (List ℕ × Source)) (bars : List SessionBar) → IsWhole sources window bars
+    → IsFrontOf (session_text bars) (session_bytes resolution (session sources window))
+minutes_front resolution window sources bars whole =
+    let behind = text_behind resolution window sources bars (bars_front resolution window sources bars Faulted whole) in
+    record { rest = behind.0; is = behind.1 }

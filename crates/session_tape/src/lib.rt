@@ -5,6 +5,7 @@
 
 mod ending;
 mod feeds;
+pub mod laws;
 mod minutes;
 mod printing;
 mod tape;
