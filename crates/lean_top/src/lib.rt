@@ -10,6 +10,8 @@ mod hours;
 mod path;
 mod report;
 mod session;
+#[cfg(test)]
+mod session_tests;
 mod source;
 mod sources;
 mod status;

@@ -1,4 +1,4 @@
-//! Worked tapes through both top calls, over folders and sinks in memory that fail at chosen calls.
+//! Worked daily tapes through both top calls, over folders and sinks in memory that fail at chosen calls.
 ghost use Rattle.std.specs.Prelude.{◌≤◌};
 
 use crate::{Status, lean_main, lean_offline};
@@ -14,7 +14,7 @@ use std::thread::Threads;
 
 /// A hand that reads one byte at a time.
 #[derive(Drop)]
-struct SlowHand<H> {
+pub(crate) struct SlowHand<H> {
     inner: H,
 }
 
@@ -41,8 +41,8 @@ impl<H: Hand> Hand for SlowHand<H> {
 
 /// A folder whose hands read one byte at a time.
 #[derive(Drop)]
-struct SlowFolder<F> {
-    inner: F,
+pub(crate) struct SlowFolder<F> {
+    pub(crate) inner: F,
 }
 
 impl<F: Folder + Drop> Folder for SlowFolder<F> {
@@ -98,7 +98,7 @@ fn folder_of(alloc: Global, files: &str, fails: Vec<(String, u64)>) -> Result<Me
     Ok(MemFolder::new(alloc, map, fails)?)
 }
 
-fn words_of(alloc: Global, words: &str) -> Result<Vec<String>, AllocError> {
+pub(crate) fn words_of(alloc: Global, words: &str) -> Result<Vec<String>, AllocError> {
     let mut all = Vec::new(alloc);
     for word in words.split(' ') {
         all.push(String::from_str(alloc, word)?)?;
@@ -107,7 +107,7 @@ fn words_of(alloc: Global, words: &str) -> Result<Vec<String>, AllocError> {
 }
 
 // How a command ended: the status, and the lines with `;` for LF.
-fn said_of(alloc: Global, status: Status, bytes: &[u8]) -> Result<String, Fail> {
+pub(crate) fn said_of(alloc: Global, status: Status, bytes: &[u8]) -> Result<String, Fail> {
     let mut said = String::new(alloc);
     write!(said, "{} ", status.code())?;
     for byte in bytes {
@@ -120,7 +120,7 @@ fn said_of(alloc: Global, status: Status, bytes: &[u8]) -> Result<String, Fail> 
     Ok(said)
 }
 
-fn offline<F: Folder>(
+pub(crate) fn offline<F: Folder>(
     alloc: Global,
     words: &str,
     folder: &mut F,
@@ -134,7 +134,7 @@ fn offline<F: Folder>(
     said_of(alloc, status, out.bytes())
 }
 
-fn threaded<R: Abort + Threads + Wait + AllocGlobal + Copy + Send + Sync + 'static>(
+pub(crate) fn threaded<R: Abort + Threads + Wait + AllocGlobal + Copy + Send + Sync + 'static>(
     rt: &R,
     words: &str,
     folder: &mut MemFolder,
