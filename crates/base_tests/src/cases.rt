@@ -1,23 +1,35 @@
-//! Tables of cases as text, which a test says again and compares.
+//! Tables of cases as text: lines `input = answer`.
 
 use std::alloc::Global;
-use std::fmt::Write;
 use std::test::Fail;
 
-/// The inputs of some cases, each with what the calls answer, as lines `input = answer`.
-pub(crate) fn answered<F: Fn(Global, &str) -> Result<String, Fail>>(
+/// What stands before and behind the sign of a case.
+pub(crate) fn parts_of(case: &str) -> Result<(&str, &str), Fail> {
+    Ok(case.split_once(" = ").ok_or("a case without an answer")?)
+}
+
+/// That an answer is the one that is wanted.
+pub(crate) fn compare(alloc: Global, input: &str, answer: &str, wanted: &str) -> Result<(), Fail> {
+    if answer == wanted {
+        return Ok(());
+    }
+    Err(format!(in alloc; "{input} is answered {answer}")?)?
+}
+
+/// That a call answers the inputs of all cases as they say.
+pub(crate) fn check<F: Fn(Global, &str) -> Result<String, Fail>>(
     alloc: Global,
     cases: &str,
     answer: F,
-) -> Result<String, Fail>
+) -> Result<(), Fail>
     requires { F.IsAlwaysCallable answer }
 {
-    let mut said = String::new(alloc);
     for case in cases.lines() {
-        let (input, _) = case.split_once(" = ").ok_or("no answer")?;
-        writeln!(said, "{input} = {}", answer(alloc, input)?)?;
+        let (input, wanted) = parts_of(case)?;
+        let answer = answer(alloc, input)?;
+        compare(alloc, input, &answer, wanted)?;
     }
-    Ok(said)
+    Ok(())
 }
 
 /// The answer of a call that has none.

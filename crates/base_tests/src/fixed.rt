@@ -1,7 +1,7 @@
 ghost use Rattle.std.specs.Prelude.{◌≤ℤ◌, pos, IfOk};
 ghost use Rattle.lean_fixed.specs.Ranges.{IsDay, IsPrintedMoment};
 
-use crate::cases::{answered, none};
+use crate::cases::{check, none};
 use lean_fixed::ranges::{LAST_DAY, LAST_PRINTED_MOMENT};
 use lean_fixed::{
     Day, Moment, Money, Price, Symbol, Window, day_text, laws, moment_text, money_text, price_text,
@@ -34,8 +34,7 @@ fn number(alloc: Global, text: &str) -> Result<String, Fail> {
 
 #[test]
 fn reads_digits(rt: HostRuntime) -> Result<(), Fail> {
-    assert_eq!(rt; answered(rt.alloc(), DIGITS, number)?.as_str(), DIGITS);
-    Ok(())
+    check(rt.alloc(), DIGITS, number)
 }
 
 const AMOUNTS: &str = "\
@@ -62,8 +61,7 @@ fn units(alloc: Global, text: &str) -> Result<String, Fail> {
 
 #[test]
 fn reads_amounts(rt: HostRuntime) -> Result<(), Fail> {
-    assert_eq!(rt; answered(rt.alloc(), AMOUNTS, units)?.as_str(), AMOUNTS);
-    Ok(())
+    check(rt.alloc(), AMOUNTS, units)
 }
 
 const SYMBOLS: &str = "\
@@ -113,19 +111,27 @@ fn order(alloc: Global, text: &str) -> Result<String, Fail> {
 
 #[test]
 fn reads_symbols(rt: HostRuntime) -> Result<(), Fail> {
-    assert_eq!(rt; answered(rt.alloc(), SYMBOLS, name)?.as_str(), SYMBOLS);
-    assert_eq!(rt; answered(rt.alloc(), ORDERS, order)?.as_str(), ORDERS);
-    Ok(())
+    check(rt.alloc(), SYMBOLS, name)
+}
+
+#[test]
+fn orders_symbols(rt: HostRuntime) -> Result<(), Fail> {
+    check(rt.alloc(), ORDERS, order)
+}
+
+// What a map holds of two symbols, of which the first is in it.
+fn held(alloc: Global, first: &str, second: &str) -> Result<(Option<u32>, Option<u32>), Fail> {
+    let first = Symbol::read(first.as_bytes()).ok_or("a symbol")?;
+    let second = Symbol::read(second.as_bytes()).ok_or("a symbol")?;
+    let mut volumes = HashMap::new(alloc);
+    volumes.insert(first, 1234)?;
+    Ok((volumes.get(&first).copied(), volumes.get(&second).copied()))
 }
 
 #[test]
 fn finds_symbols_in_a_map(rt: HostRuntime) -> Result<(), Fail> {
-    let spider = Symbol::read(b"SPY").ok_or("a symbol")?;
-    let apple = Symbol::read(b"AAPL").ok_or("a symbol")?;
-    let mut volumes = HashMap::new(rt.alloc());
-    volumes.insert(spider, 1234)?;
-    assert_eq!(rt; volumes.get(&spider).copied(), Some(1234));
-    assert_eq!(rt; volumes.get(&apple).copied(), None);
+    let held = held(rt.alloc(), "SPY", "AAPL")?;
+    assert_eq!(rt; held, (Some(1234), None));
     Ok(())
 }
 
@@ -157,8 +163,7 @@ fn day_number(alloc: Global, text: &str) -> Result<String, Fail> {
 
 #[test]
 fn reads_days(rt: HostRuntime) -> Result<(), Fail> {
-    assert_eq!(rt; answered(rt.alloc(), DAYS, day_number)?.as_str(), DAYS);
-    Ok(())
+    check(rt.alloc(), DAYS, day_number)
 }
 
 fn day_of(text: &str) -> Result<Day, Fail>
@@ -192,8 +197,7 @@ fn weekday(alloc: Global, text: &str) -> Result<String, Fail> {
 
 #[test]
 fn names_weekdays(rt: HostRuntime) -> Result<(), Fail> {
-    assert_eq!(rt; answered(rt.alloc(), WEEKDAYS, weekday)?.as_str(), WEEKDAYS);
-    Ok(())
+    check(rt.alloc(), WEEKDAYS, weekday)
 }
 
 // A text that a call appends to one that is there.
@@ -226,11 +230,7 @@ fn printed_day(alloc: Global, text: &str) -> Result<String, Fail> {
 
 #[test]
 fn prints_days(rt: HostRuntime) -> Result<(), Fail> {
-    assert_eq!(rt;
-        answered(rt.alloc(), PRINTED_DAYS, printed_day)?.as_str(),
-        PRINTED_DAYS
-    );
-    Ok(())
+    check(rt.alloc(), PRINTED_DAYS, printed_day)
 }
 
 const PRINTED_MOMENTS: &str = "\
@@ -255,9 +255,7 @@ fn printed_moment(alloc: Global, text: &str) -> Result<String, Fail> {
 
 #[test]
 fn prints_moments(rt: HostRuntime) -> Result<(), Fail> {
-    let said = answered(rt.alloc(), PRINTED_MOMENTS, printed_moment)?;
-    assert_eq!(rt; said.as_str(), PRINTED_MOMENTS);
-    Ok(())
+    check(rt.alloc(), PRINTED_MOMENTS, printed_moment)
 }
 
 // The day of a moment, and its minute where it is of 1970 or later.
@@ -307,13 +305,13 @@ fn ends(alloc: Global, text: &str) -> Result<String, Fail> {
 }
 
 #[test]
-fn tells_days_and_windows(rt: HostRuntime) -> Result<(), Fail> {
-    assert_eq!(rt;
-        answered(rt.alloc(), MOMENTS, day_and_minute)?.as_str(),
-        MOMENTS
-    );
-    assert_eq!(rt; answered(rt.alloc(), WINDOWS, ends)?.as_str(), WINDOWS);
-    Ok(())
+fn tells_days(rt: HostRuntime) -> Result<(), Fail> {
+    check(rt.alloc(), MOMENTS, day_and_minute)
+}
+
+#[test]
+fn tells_windows(rt: HostRuntime) -> Result<(), Fail> {
+    check(rt.alloc(), WINDOWS, ends)
 }
 
 const PRICES: &str = "\
@@ -348,11 +346,11 @@ fn printed_money(alloc: Global, text: &str) -> Result<String, Fail> {
 }
 
 #[test]
-fn prints_prices_and_money(rt: HostRuntime) -> Result<(), Fail> {
-    assert_eq!(rt;
-        answered(rt.alloc(), PRICES, printed_price)?.as_str(),
-        PRICES
-    );
-    assert_eq!(rt; answered(rt.alloc(), SUMS, printed_money)?.as_str(), SUMS);
-    Ok(())
+fn prints_prices(rt: HostRuntime) -> Result<(), Fail> {
+    check(rt.alloc(), PRICES, printed_price)
+}
+
+#[test]
+fn prints_money(rt: HostRuntime) -> Result<(), Fail> {
+    check(rt.alloc(), SUMS, printed_money)
 }

@@ -1,5 +1,6 @@
 ghost use Rattle.std.specs.Prelude.{◌≡◌, true};
 
+use crate::cases::{check, compare, parts_of};
 use lean_fixed::NoMemory;
 use lean_io::{
     DirFolder, Failed, Folder, Hand, MemFolder, MemSink, Sink, StdSink, Whole, WriteFault,
@@ -7,7 +8,6 @@ use lean_io::{
 };
 use std::alloc::Global;
 use std::collections::BTreeMap;
-use std::fmt::Write;
 use std::fs;
 use std::test::Fail;
 
@@ -119,15 +119,14 @@ fn answer<H: Hand>(alloc: Global, hand: &mut H, command: &str) -> Result<String,
     }
 }
 
-// The cases with what a hand answers to each of their commands in turn.
-fn answers<H: Hand>(alloc: Global, hand: &mut H, cases: &str) -> Result<String, Fail> {
-    let mut said = String::new(alloc);
+// That a hand answers the commands of all cases in turn as they say.
+fn check_hand<H: Hand>(alloc: Global, hand: &mut H, cases: &str) -> Result<(), Fail> {
     for case in cases.lines() {
-        let (command, _) = case.split_once(" = ").ok_or("no answer")?;
+        let (command, wanted) = parts_of(case)?;
         let answer = answer(alloc, hand, command)?;
-        writeln!(said, "{command} = {answer}")?;
+        compare(alloc, command, &answer, wanted)?;
     }
-    Ok(said)
+    Ok(())
 }
 
 const FILES: &str = "\
@@ -158,10 +157,9 @@ fn files_in_memory_are_read(rt: HostRuntime) -> Result<(), Fail> {
     let alloc = rt.alloc();
     let mut folder = folder(alloc, "none.csv", 99)?;
     let mut hand = folder.hand(alloc)?;
-    let said = answers(alloc, &mut hand, FILES)?;
+    let checked = check_hand(alloc, &mut hand, FILES);
     folder.take_back(hand);
-    assert_eq!(rt; said.as_str(), FILES);
-    Ok(())
+    checked
 }
 
 // A command and the call that fails of each opening of its file, and what one hand answers to it, to
@@ -205,15 +203,7 @@ fn failing_answers(alloc: Global, case: &str) -> Result<String, Fail> {
 
 #[test]
 fn each_call_fails_where_it_is_listed(rt: HostRuntime) -> Result<(), Fail> {
-    let alloc = rt.alloc();
-    let mut said = String::new(alloc);
-    for case in FAILING_CALLS.lines() {
-        let (input, _) = case.split_once(" = ").ok_or("no answer")?;
-        let answers = failing_answers(alloc, input)?;
-        writeln!(said, "{input} = {answers}")?;
-    }
-    assert_eq!(rt; said.as_str(), FAILING_CALLS);
-    Ok(())
+    check(rt.alloc(), FAILING_CALLS, failing_answers)
 }
 
 // The most bytes that a sink takes at a time, how many it has room for and the write that fails, and what
@@ -238,28 +228,30 @@ const WRITES: &str = "\
 // What a sink takes of ten bytes.
 fn taken(alloc: Global, most: usize, room: usize, fail: u64) -> Result<String, NoMemory> {
     let piece = made(alloc, 10)?;
-    let mut fails = Vec::new(alloc);
-    fails.push(fail)?;
-    let mut sink = MemSink::new(alloc, most.max(1), room, fails)?;
+    let mut sink = sink_of(alloc, most, room, fail)?;
     match write_whole(&mut sink, &piece) {
         Ok(()) => said(alloc, sink.bytes(), " are all"),
         Err(WriteFault) => said(alloc, sink.bytes(), " and a fault"),
     }
 }
 
+// A sink where one write fails.
+fn sink_of(alloc: Global, most: usize, room: usize, fail: u64) -> Result<MemSink, NoMemory> {
+    let most = if most == 0 { 1 } else { most };
+    let mut fails = Vec::new(alloc);
+    fails.push(fail)?;
+    MemSink::new(alloc, most, room, fails)
+}
+
+fn taken_of(alloc: Global, input: &str) -> Result<String, Fail> {
+    let (most, rest) = input.split_once(' ').ok_or("no room")?;
+    let (room, fail) = rest.split_once(' ').ok_or("no write")?;
+    Ok(taken(alloc, most.parse()?, room.parse()?, fail.parse()?)?)
+}
+
 #[test]
 fn bytes_are_written_whole_or_a_front_of_them(rt: HostRuntime) -> Result<(), Fail> {
-    let alloc = rt.alloc();
-    let mut said = String::new(alloc);
-    for case in WRITES.lines() {
-        let (input, _) = case.split_once(" = ").ok_or("no answer")?;
-        let (most, rest) = input.split_once(' ').ok_or("no room")?;
-        let (room, fail) = rest.split_once(' ').ok_or("no write")?;
-        let answer = taken(alloc, most.parse()?, room.parse()?, fail.parse()?)?;
-        writeln!(said, "{input} = {answer}")?;
-    }
-    assert_eq!(rt; said.as_str(), WRITES);
-    Ok(())
+    check(rt.alloc(), WRITES, taken_of)
 }
 
 // Pieces in turn, to a sink that takes one byte at a time, has room for two, and whose second write
@@ -283,25 +275,20 @@ fn write_answer(alloc: Global, sink: &mut MemSink, command: &str) -> Result<Stri
     }
 }
 
-// The cases with what a sink answers to each of their commands in turn.
-fn write_answers(alloc: Global, sink: &mut MemSink, cases: &str) -> Result<String, Fail> {
-    let mut said = String::new(alloc);
+// That a sink answers the commands of all cases in turn as they say.
+fn check_sink(alloc: Global, sink: &mut MemSink, cases: &str) -> Result<(), Fail> {
     for case in cases.lines() {
-        let (command, _) = case.split_once(" = ").ok_or("no answer")?;
+        let (command, wanted) = parts_of(case)?;
         let answer = write_answer(alloc, sink, command)?;
-        writeln!(said, "{command} = {answer}")?;
+        compare(alloc, command, &answer, wanted)?;
     }
-    Ok(said)
+    Ok(())
 }
 
 #[test]
 fn writes_are_counted_from_one(rt: HostRuntime) -> Result<(), Fail> {
-    let alloc = rt.alloc();
-    let mut fails = Vec::new(alloc);
-    fails.push(2)?;
-    let mut sink = MemSink::new(alloc, 1, 2, fails)?;
-    let said = write_answers(alloc, &mut sink, PIECES)?;
-    assert_eq!(rt; said.as_str(), PIECES);
+    let mut sink = sink_of(rt.alloc(), 1, 2, 2)?;
+    check_sink(rt.alloc(), &mut sink, PIECES)?;
     assert_eq!(rt; sink.bytes(), b"ab".as_slice());
     Ok(())
 }
@@ -336,19 +323,25 @@ pieces . 7 = 0 and a fault
 pieces lean_io.of_a_test_2 7 = 6 to the end
 ";
 
-#[test]
-fn a_directory_is_read(rt: HostRuntime) -> Result<(), Fail> {
+fn check_directory(rt: HostRuntime) -> Result<(), Fail> {
     let alloc = rt.alloc();
-    fs::write(&rt, "lean_io.of_a_test", made(alloc, 40_000)?.as_slice())?;
-    fs::write(&rt, "lean_io.of_a_test_2", made(alloc, 6)?.as_slice())?;
     let mut folder = DirFolder::new(rt);
     let mut hand = folder.hand(alloc)?;
-    let said = answers(alloc, &mut hand, DIRECTORY)?;
+    let checked = check_hand(alloc, &mut hand, DIRECTORY);
     folder.take_back(hand);
-    assert_eq!(rt; said.as_str(), DIRECTORY);
+    checked
+}
+
+#[test]
+fn a_directory_is_read(rt: HostRuntime) -> Result<(), Fail> {
+    let many = made(rt.alloc(), 40_000)?;
+    let few = made(rt.alloc(), 6)?;
+    fs::write(&rt, "lean_io.of_a_test", &many)?;
+    fs::write(&rt, "lean_io.of_a_test_2", &few)?;
+    let checked = check_directory(rt);
     fs::remove_file(&rt, "lean_io.of_a_test")?;
     fs::remove_file(&rt, "lean_io.of_a_test_2")?;
-    Ok(())
+    checked
 }
 
 #[test]

@@ -1,6 +1,7 @@
 //! The words of a report for the reasons of a malformed line.
 
 use lean_items::Reason;
+use std::alloc::{AllocError, Global};
 use std::test::Fail;
 
 const WORDS: &str = "many
@@ -13,9 +14,8 @@ range
 order
 ";
 
-#[test]
-fn each_reason_has_its_word(rt: HostRuntime) -> Result<(), Fail> {
-    let mut words = String::new(rt.alloc());
+fn words(alloc: Global) -> Result<String, AllocError> {
+    let mut words = String::new(alloc);
     for reason in [
         Reason::Many,
         Reason::Long,
@@ -27,8 +27,14 @@ fn each_reason_has_its_word(rt: HostRuntime) -> Result<(), Fail> {
         Reason::Order,
     ] {
         words.push_str(reason.word())?;
-        words.push('\n')?;
+        words.push_str("\n")?;
     }
+    Ok(words)
+}
+
+#[test]
+fn each_reason_has_its_word(rt: HostRuntime) -> Result<(), Fail> {
+    let words = words(rt.alloc())?;
     assert_eq!(rt; words.as_str(), WORDS);
     Ok(())
 }

@@ -4,18 +4,8 @@
 #[cfg(test)]
 mod cases;
 #[cfg(test)]
-mod coarse;
-#[cfg(test)]
-mod equity;
-#[cfg(test)]
 mod fixed;
-#[cfg(test)]
-mod hours;
 #[cfg(test)]
 mod io;
 #[cfg(test)]
 mod items;
-#[cfg(test)]
-mod lines;
-#[cfg(test)]
-mod paths;

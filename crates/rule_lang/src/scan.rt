@@ -191,7 +191,7 @@ fn decimal(whole: &[u8], places: &[u8]) -> Front
     requires places { list_all is_digit places.now ≡ true }
     ensures { result ≡ numeral whole.now (Some places.now) }
 {
-    if places.is_empty() || places.len() > MOST_PLACES {
+    if !are_places(places) {
         return Front::Bad(RuleError::Number);
     }
     let units = value(whole) as u128 * 10_000;
@@ -200,6 +200,13 @@ fn decimal(whole: &[u8], places: &[u8]) -> Front
         Kind::Decimal((units + rest) as i128),
         whole.len() + 1 + places.len(),
     )
+}
+
+// Whether so many digits may stand behind a point.
+fn are_places(places: &[u8]) -> bool
+    ensures { result ≡ nat_le 1 (length places.now) && nat_le (length places.now) 4 }
+{
+    !places.is_empty() && places.len() <= MOST_PLACES
 }
 
 // What at most 18 digits stand for.

@@ -1,6 +1,7 @@
 ghost use Rattle.std.specs.Prelude.{◌≡◌, ◌≤◌, true};
 ghost use Rattle.line_source.specs.Reader.{hand_of, number_of};
 
+use crate::cases::check;
 use lean_io::{Failed, Folder, Hand, MemFolder};
 use line_source::{Line, Lines};
 use std::alloc::{AllocError, Global};
@@ -52,7 +53,8 @@ impl<H: Hand> Hand for CutHand<H> {
 
 // So many of a byte, or one where the number is 0.
 fn push_run(bytes: &mut Vec<u8>, byte: u8, count: usize) -> Result<(), AllocError> {
-    for _ in 0..count.max(1) {
+    let count = if count == 0 { 1 } else { count };
+    for _ in 0..count {
         bytes.push(byte)?;
     }
     Ok(())
@@ -80,20 +82,33 @@ fn bytes_of(alloc: Global, text: &str) -> Result<Vec<u8>, AllocError> {
     Ok(bytes)
 }
 
+// A byte of a text as a case writes it.
+fn letter_of(byte: u8) -> &'static str {
+    match byte {
+        b'a' => "a",
+        b'b' => "b",
+        b'c' => "c",
+        b'd' => "d",
+        b'\r' => "<",
+        _ => "?",
+    }
+}
+
+// So many of a byte as a case writes them.
+fn write_run(said: &mut String, byte: u8, count: usize) -> Result<(), AllocError> {
+    if count > 1 {
+        write!(said, "{count}")?;
+    }
+    said.push_str(letter_of(byte))
+}
+
 // A text as a case writes it.
-fn write_runs(said: &mut String, text: &[u8]) -> Result<(), Fail> {
+fn write_runs(said: &mut String, text: &[u8]) -> Result<(), AllocError> {
     let mut run: usize = 0;
     for (i, byte) in text.iter().enumerate() {
         run = run.saturating_add(1);
         if text.get(i + 1) != Some(byte) {
-            if run > 1 {
-                write!(said, "{run}")?;
-            }
-            said.push(if *byte == b'\r' {
-                '<'
-            } else {
-                char::from(*byte)
-            })?;
+            write_run(said, *byte, run)?;
             run = 0;
         }
     }
@@ -201,29 +216,69 @@ a;257b;c = 1 a, 2 long
 1000a = 1 long
 ";
 
-// Each file as it is, with a read that ends at each of its places, and a few bytes a read.
+// Whether a reader gives the same of a file where a read ends at a place, and others have at most so many bytes.
+fn is_same_cut(
+    alloc: Global,
+    folder: &mut MemFolder,
+    answer: &str,
+    place: usize,
+    most: usize,
+) -> Result<bool, Fail> {
+    let cut = list_cut(alloc, folder, place, most)?;
+    Ok(cut.as_str() == answer)
+}
+
+// The first place of a file at which another answer is given where a read ends there.
+fn differing_place(
+    alloc: Global,
+    folder: &mut MemFolder,
+    answer: &str,
+    size: usize,
+) -> Result<Option<usize>, Fail> {
+    for place in 1..size {
+        if !is_same_cut(alloc, folder, answer, place, 256)? {
+            return Ok(Some(place));
+        }
+    }
+    Ok(None)
+}
+
+// The least number of bytes a read at which another answer is given.
+fn differing_size(
+    alloc: Global,
+    folder: &mut MemFolder,
+    answer: &str,
+) -> Result<Option<usize>, Fail> {
+    for most in 1..9 {
+        if !is_same_cut(alloc, folder, answer, 0, most)? {
+            return Ok(Some(most));
+        }
+    }
+    Ok(None)
+}
+
+// What is given of a file as it is, with a read that ends at each of its places, and with a few bytes a read.
+fn list_each_cut(alloc: Global, folder: &mut MemFolder, size: usize) -> Result<String, Fail> {
+    let answer = list_cut(alloc, folder, 0, 256)?;
+    if let Some(place) = differing_place(alloc, folder, &answer, size)? {
+        return Ok(format!(in alloc; "{answer}, but not cut at {place}")?);
+    }
+    if let Some(most) = differing_size(alloc, folder, &answer)? {
+        return Ok(format!(in alloc; "{answer}, but not by {most}")?);
+    }
+    Ok(answer)
+}
+
+fn each_cut(alloc: Global, input: &str) -> Result<String, Fail> {
+    let bytes = bytes_of(alloc, input)?;
+    let size = bytes.len();
+    let mut folder = folder_of(alloc, bytes, NEVER)?;
+    list_each_cut(alloc, &mut folder, size)
+}
+
 #[test]
 fn lines_are_the_same_however_reads_are_cut(rt: HostRuntime) -> Result<(), Fail> {
-    let alloc = rt.alloc();
-    let mut said = String::new(alloc);
-    for case in FILES.lines() {
-        let (input, _) = case.split_once(" = ").ok_or("no answer")?;
-        let bytes = bytes_of(alloc, input)?;
-        let size = bytes.len();
-        let mut folder = folder_of(alloc, bytes, NEVER)?;
-        let answer = list_cut(alloc, &mut folder, 0, 256)?;
-        for place in 1..size {
-            let cut = list_cut(alloc, &mut folder, place, 256)?;
-            assert_eq!(rt; cut, answer, "{input} cut at {place}");
-        }
-        for most in 1..9 {
-            let cut = list_cut(alloc, &mut folder, 0, most)?;
-            assert_eq!(rt; cut, answer, "{input} by {most}");
-        }
-        writeln!(said, "{input} = {answer}")?;
-    }
-    assert_eq!(rt; said.as_str(), FILES);
-    Ok(())
+    check(rt.alloc(), FILES, each_cut)
 }
 
 // The call that fails while `ab;c;d` is read, where a read gives at most so many bytes. Behind the last line the end is
@@ -245,19 +300,19 @@ const FAILING: &str = "\
 4 256 = 1 ab, 2 c, 3 d, end
 ";
 
+fn list_failing(alloc: Global, call: u64, most: usize) -> Result<String, Fail> {
+    let mut folder = folder_of(alloc, bytes_of(alloc, "ab;c;d")?, call)?;
+    list_cut(alloc, &mut folder, 0, most)
+}
+
+fn failing(alloc: Global, input: &str) -> Result<String, Fail> {
+    let (call, most) = input.split_once(' ').ok_or("no number")?;
+    list_failing(alloc, call.parse()?, most.parse()?)
+}
+
 #[test]
 fn a_failed_read_is_not_the_end(rt: HostRuntime) -> Result<(), Fail> {
-    let alloc = rt.alloc();
-    let mut said = String::new(alloc);
-    for case in FAILING.lines() {
-        let (input, _) = case.split_once(" = ").ok_or("no answer")?;
-        let (call, most) = input.split_once(' ').ok_or("no number")?;
-        let mut folder = folder_of(alloc, bytes_of(alloc, "ab;c;d")?, call.parse()?)?;
-        let answer = list_cut(alloc, &mut folder, 0, most.parse()?)?;
-        writeln!(said, "{input} = {answer}")?;
-    }
-    assert_eq!(rt; said.as_str(), FAILING);
-    Ok(())
+    check(rt.alloc(), FAILING, failing)
 }
 
 const MANY: &str = "\
@@ -269,39 +324,80 @@ const MANY: &str = "\
 10000000;257a = 10000001 many
 ";
 
+// What is given of the file by a hand of the folder itself.
+fn list_whole(alloc: Global, folder: &mut MemFolder) -> Result<String, Fail> {
+    let mut lines = Lines::new(folder.hand(alloc)?);
+    let said = list_file(alloc, &mut lines)?;
+    folder.take_back(lines.into_hand());
+    Ok(said)
+}
+
+fn many(alloc: Global, input: &str) -> Result<String, Fail> {
+    let mut folder = folder_of(alloc, bytes_of(alloc, input)?, NEVER)?;
+    list_whole(alloc, &mut folder)
+}
+
 #[test]
 fn a_file_has_ten_million_lines_at_most(rt: HostRuntime) -> Result<(), Fail> {
-    let alloc = rt.alloc();
-    let mut said = String::new(alloc);
-    for case in MANY.lines() {
-        let (input, _) = case.split_once(" = ").ok_or("no answer")?;
-        let mut folder = folder_of(alloc, bytes_of(alloc, input)?, NEVER)?;
-        let mut lines = Lines::new(folder.hand(alloc)?);
-        let answer = list_file(alloc, &mut lines)?;
-        folder.take_back(lines.into_hand());
-        writeln!(said, "{input} = {answer}")?;
-    }
-    assert_eq!(rt; said.as_str(), MANY);
-    Ok(())
+    check(rt.alloc(), MANY, many)
 }
+
+// The number and the text of a line that was given.
+fn given<H: Hand>(alloc: Global, lines: &Lines<H>) -> Result<String, AllocError> {
+    let mut said = format!(in alloc; "{} ", lines.number())?;
+    write_runs(&mut said, lines.text())?;
+    Ok(said)
+}
+
+// The first line behind an opening.
+fn first_line<H: Hand>(
+    alloc: Global,
+    lines: &mut Lines<H>,
+    path: &str,
+) -> Result<String, AllocError> {
+    match lines.open_file(path) {
+        Ok(true) => match lines.next() {
+            Line::Text => given(alloc, lines),
+            _ => String::from_str(alloc, "no text"),
+        },
+        Ok(false) => String::from_str(alloc, "missing"),
+        Err(Failed) => String::from_str(alloc, "failed"),
+    }
+}
+
+// What is given of all lines, of a file that is not there, and of the first line.
+fn list_again<H: Hand>(alloc: Global, lines: &mut Lines<H>) -> Result<String, Fail> {
+    let all = list_file(alloc, lines)?;
+    let other = first_line(alloc, lines, "other.csv")?;
+    let first = first_line(alloc, lines, PATH)?;
+    Ok(format!(in alloc; "{all}; {other}; {first}")?)
+}
+
+// The same three times by one reader.
+fn list_thrice(alloc: Global, folder: &mut MemFolder) -> Result<String, Fail> {
+    let mut lines = Lines::new(folder.hand(alloc)?);
+    let first = list_again(alloc, &mut lines)?;
+    let second = list_again(alloc, &mut lines)?;
+    let third = list_again(alloc, &mut lines)?;
+    folder.take_back(lines.into_hand());
+    Ok(format!(in alloc; "{first}\n{second}\n{third}\n")?)
+}
+
+fn thrice(alloc: Global) -> Result<String, Fail> {
+    let mut folder = folder_of(alloc, bytes_of(alloc, "a;;b;c")?, NEVER)?;
+    list_thrice(alloc, &mut folder)
+}
+
+const AGAIN: &str = "\
+1 a, 3 b, 4 c, end; missing; 1 a
+1 a, 3 b, 4 c, end; missing; 1 a
+1 a, 3 b, 4 c, end; missing; 1 a
+";
 
 // An opening begins with the first line, and forgets what was read ahead.
 #[test]
 fn a_file_begins_with_its_first_line(rt: HostRuntime) -> Result<(), Fail> {
-    let alloc = rt.alloc();
-    let mut folder = folder_of(alloc, bytes_of(alloc, "a;;b;c")?, NEVER)?;
-    let mut lines = Lines::new(folder.hand(alloc)?);
-    for _ in 0..3 {
-        let all = list_file(alloc, &mut lines)?;
-        assert_eq!(rt; all.as_str(), "1 a, 3 b, 4 c, end");
-        let missing = lines.open_file("other.csv");
-        assert_eq!(rt; missing, Ok(false));
-        let opened = lines.open_file(PATH);
-        assert_eq!(rt; opened, Ok(true));
-        assert_eq!(rt; lines.next(), Line::Text);
-        assert_eq!(rt; lines.number(), 1);
-        assert_eq!(rt; lines.text(), b"a".as_slice());
-    }
-    folder.take_back(lines.into_hand());
+    let said = thrice(rt.alloc())?;
+    assert_eq!(rt; said.as_str(), AGAIN);
     Ok(())
 }

@@ -1,14 +1,13 @@
 //! The rows of equity files: what each text is read as, and what is written for a row. A case is a line: the text of a row
 //! and, behind ` = `, its start in minutes since 1970-01-01 00:00, its prices and its volume, or the word of the reason.
 
-ghost use Rattle.std.specs.Prelude.{◌≡◌, ◌%◌, IfSome};
-ghost use Rattle.equity_csv.specs.Written.{IsRow, minute_of_row};
-
+use crate::cases::check;
 use equity_csv::laws::{dated_row_is_valid, minute_row_is_valid};
 use equity_csv::{Row, read_dated, read_minute, write_dated, write_minute};
-use lean_fixed::{Day, Resolution};
+use lean_fixed::{Day, NoMemory, Resolution};
 use lean_items::Reason;
-use std::alloc::AllocError;
+use std::alloc::{AllocError, Global};
+use std::str;
 use std::test::Fail;
 
 // The worked lines, and what the format allows: a point and zeros, leading zeros, and further fields.
@@ -203,131 +202,137 @@ fn byte_of(letter: u8) -> u8 {
 }
 
 // The bytes of a text of a table.
-fn bytes_of(rt: &HostRuntime, text: &str) -> Result<Vec<u8>, AllocError> {
-    let mut bytes = Vec::new(rt.alloc());
+fn bytes_of(alloc: Global, text: &str) -> Result<Vec<u8>, AllocError> {
+    let mut bytes = Vec::new(alloc);
     for letter in text.as_bytes() {
         bytes.push(byte_of(*letter))?;
     }
     Ok(bytes)
 }
 
-// What a text is read as.
-#[derive(Clone, Copy)]
-enum Reader {
-    // a line of the minute file of 20131007
-    Minute,
-    Hour,
-    Daily,
-}
-
-fn read(reader: Reader, text: &[u8]) -> Result<Row, Reason> {
-    match reader {
-        Reader::Minute => read_minute(Day(15_985), text),
-        Reader::Hour => read_dated(Resolution::Hour, text),
-        Reader::Daily => read_dated(Resolution::Daily, text),
-    }
-}
-
-fn append_answer(answer: Result<Row, Reason>, out: &mut String) -> Result<(), AllocError> {
+fn answer_of(alloc: Global, answer: Result<Row, Reason>) -> Result<String, AllocError> {
     match answer {
-        Ok(row) => write!(
-            out,
+        Ok(row) => format!(in alloc;
             "{} {} {} {} {} {}",
             row.start.0, row.opening.0, row.high.0, row.low.0, row.closing.0, row.volume.0
         ),
-        Err(reason) => out.push_str(reason.word()),
+        Err(reason) => String::from_str(alloc, reason.word()),
     }
 }
 
-// The cases with the answers of the reader.
-fn answered(rt: &HostRuntime, reader: Reader, cases: &str) -> Result<String, Fail> {
-    let mut answers = String::new(rt.alloc());
-    for case in cases.lines() {
-        let (text, _) = case.split_once(" = ").ok_or("a case without an answer")?;
-        answers.push_str(text)?;
-        answers.push_str(" = ")?;
-        append_answer(read(reader, &bytes_of(rt, text)?), &mut answers)?;
-        answers.push('\n')?;
-    }
-    Ok(answers)
+// A line of the minute file of 20131007.
+fn minute(alloc: Global, text: &str) -> Result<String, Fail> {
+    let bytes = bytes_of(alloc, text)?;
+    Ok(answer_of(alloc, read_minute(Day(15_985), &bytes))?)
+}
+
+fn hour(alloc: Global, text: &str) -> Result<String, Fail> {
+    let bytes = bytes_of(alloc, text)?;
+    Ok(answer_of(alloc, read_dated(Resolution::Hour, &bytes))?)
+}
+
+fn daily(alloc: Global, text: &str) -> Result<String, Fail> {
+    let bytes = bytes_of(alloc, text)?;
+    Ok(answer_of(alloc, read_dated(Resolution::Daily, &bytes))?)
 }
 
 #[test]
-fn texts_are_read(rt: HostRuntime) -> Result<(), Fail> {
-    for cases in [MINUTE_LINES, MINUTE_TIMES, VALUES, FIRST_REASONS] {
-        assert_eq!(rt; answered(&rt, Reader::Minute, cases)?.as_str(), cases);
-    }
-    assert_eq!(rt;
-        answered(&rt, Reader::Hour, HOUR_LINES)?.as_str(),
-        HOUR_LINES
-    );
-    assert_eq!(rt;
-        answered(&rt, Reader::Daily, DAILY_LINES)?.as_str(),
-        DAILY_LINES
-    );
-    Ok(())
+fn minute_lines_are_read(rt: HostRuntime) -> Result<(), Fail> {
+    check(rt.alloc(), MINUTE_LINES, minute)
+}
+
+#[test]
+fn minute_times_are_read(rt: HostRuntime) -> Result<(), Fail> {
+    check(rt.alloc(), MINUTE_TIMES, minute)
+}
+
+#[test]
+fn values_are_read(rt: HostRuntime) -> Result<(), Fail> {
+    check(rt.alloc(), VALUES, minute)
+}
+
+#[test]
+fn the_first_reason_counts(rt: HostRuntime) -> Result<(), Fail> {
+    check(rt.alloc(), FIRST_REASONS, minute)
+}
+
+#[test]
+fn hour_lines_are_read(rt: HostRuntime) -> Result<(), Fail> {
+    check(rt.alloc(), HOUR_LINES, hour)
+}
+
+#[test]
+fn daily_lines_are_read(rt: HostRuntime) -> Result<(), Fail> {
+    check(rt.alloc(), DAILY_LINES, daily)
 }
 
 // The minute files of the first and of the last day.
+const OUTER_MINUTES: &str = "\
+0 0,1,1,1,1,0 = 0 1 1 1 1 0
+84005 86340000,1,1,1,1,0 = 120968639 1 1 1 1 0
+";
+
+fn outer_minute(alloc: Global, text: &str) -> Result<String, Fail> {
+    let (day, text) = text.split_once(' ').ok_or("a day")?;
+    let day = if day == "0" { Day(0) } else { Day(84_005) };
+    Ok(answer_of(alloc, read_minute(day, text.as_bytes()))?)
+}
+
 #[test]
 fn first_and_last_minute(rt: HostRuntime) -> Result<(), Fail> {
-    let mut starts = String::new(rt.alloc());
-    append_answer(read_minute(Day(0), b"0,1,1,1,1,0"), &mut starts)?;
-    starts.push(';')?;
-    append_answer(read_minute(Day(84_005), b"86340000,1,1,1,1,0"), &mut starts)?;
-    assert_eq!(rt; starts.as_str(), "0 1 1 1 1 0;120968639 1 1 1 1 0");
-    Ok(())
+    check(rt.alloc(), OUTER_MINUTES, outer_minute)
 }
 
-// The rows that may be written: those that are read.
-fn minute_row(text: &str) -> Option<Row>
-    ensures { IfSome result IsRow }
-{
+// Appends the line that is written for the row of a text. `None`: the text has no row.
+fn write_minute_of(text: &str, out: &mut Vec<u8>) -> Result<Option<Row>, NoMemory> {
     minute_row_is_valid();
     match read_minute(Day(15_985), text.as_bytes()) {
-        Ok(row) => Some(row),
-        Err(_) => None,
+        Ok(row) => match write_minute(&row, out) {
+            Ok(()) => Ok(Some(row)),
+            Err(NoMemory) => Err(NoMemory),
+        },
+        Err(_) => Ok(None),
     }
 }
 
-fn hour_row(text: &str) -> Option<Row>
-    ensures row { IfSome result IsRow }
-    ensures whole { IfSome result (λ row. minute_of_row row % 60 ≡ 0) }
-{
+fn write_hour_of(text: &str, out: &mut Vec<u8>) -> Result<Option<Row>, NoMemory> {
     dated_row_is_valid();
     match read_dated(Resolution::Hour, text.as_bytes()) {
-        Ok(row) => Some(row),
-        Err(_) => None,
+        Ok(row) => match write_dated(&row, out) {
+            Ok(()) => Ok(Some(row)),
+            Err(NoMemory) => Err(NoMemory),
+        },
+        Err(_) => Ok(None),
     }
 }
 
-// The row of a text is written behind the text, and what is written is read as the same row.
+// What is written for the row of a text, where it is read as the same row.
+fn written_minute(alloc: Global, text: &str) -> Result<String, Fail> {
+    let mut out = Vec::new(alloc);
+    let row = write_minute_of(text, &mut out)?.ok_or("a text without a row")?;
+    let line = str::from_utf8(&out)?.strip_suffix("\n").ok_or("no LF")?;
+    if read_minute(Day(15_985), line.as_bytes()) != Ok(row) {
+        return Err("another row")?;
+    }
+    Ok(String::from_str(alloc, line)?)
+}
+
+fn written_hour(alloc: Global, text: &str) -> Result<String, Fail> {
+    let mut out = Vec::new(alloc);
+    let row = write_hour_of(text, &mut out)?.ok_or("a text without a row")?;
+    let line = str::from_utf8(&out)?.strip_suffix("\n").ok_or("no LF")?;
+    if read_dated(Resolution::Hour, line.as_bytes()) != Ok(row) {
+        return Err("another row")?;
+    }
+    Ok(String::from_str(alloc, line)?)
+}
+
 #[test]
 fn minute_rows_are_written(rt: HostRuntime) -> Result<(), Fail> {
-    let mut out = Vec::new(rt.alloc());
-    for case in WRITTEN_MINUTES.lines() {
-        let (text, line) = case.split_once(" = ").ok_or("a case without a line")?;
-        out.extend_from_slice(text.as_bytes())?;
-        out.extend_from_slice(b" = ")?;
-        let row = minute_row(text).ok_or("a text without a row")?;
-        write_minute(&row, &mut out).map_err(|_| "no memory")?;
-        assert_eq!(rt; minute_row(line), Some(row));
-    }
-    assert_eq!(rt; out.as_slice(), WRITTEN_MINUTES.as_bytes());
-    Ok(())
+    check(rt.alloc(), WRITTEN_MINUTES, written_minute)
 }
 
 #[test]
 fn dated_rows_are_written(rt: HostRuntime) -> Result<(), Fail> {
-    let mut out = Vec::new(rt.alloc());
-    for case in WRITTEN_DATES.lines() {
-        let (text, line) = case.split_once(" = ").ok_or("a case without a line")?;
-        out.extend_from_slice(text.as_bytes())?;
-        out.extend_from_slice(b" = ")?;
-        let row = hour_row(text).ok_or("a text without a row")?;
-        write_dated(&row, &mut out).map_err(|_| "no memory")?;
-        assert_eq!(rt; hour_row(line), Some(row));
-    }
-    assert_eq!(rt; out.as_slice(), WRITTEN_DATES.as_bytes());
-    Ok(())
+    check(rt.alloc(), WRITTEN_DATES, written_hour)
 }

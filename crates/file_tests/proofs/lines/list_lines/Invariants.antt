@@ -1,6 +1,6 @@
 use Rattle.std.proofs.Common.{◌-◌, ◌≡◌, ◌≤◌, true}
 use Rattle.line_source.specs.Reader.{hand_of, number_of}
-use Rattle.base_tests.proofs.lines.list_lines.Given as goal
+use Rattle.file_tests.proofs.lines.list_lines.Given as goal
 
 abbrev pub invariant-lines : goal.invariant-lines
 invariant-lines g l = record {

@@ -1,8 +1,10 @@
 //! The rows of coarse universe files: what each text is read as. A case is a line: the text of a row and, behind ` = `, its
 //! symbol, its close in 1/10000 dollar, its volume and its dollar volume, or `skipped`, or the word of the reason.
 
+use crate::cases::check;
 use coarse_csv::read_coarse;
-use lean_items::{CoarseRow, Reason};
+use lean_items::CoarseRow;
+use std::alloc::Global;
 use std::str;
 use std::test::Fail;
 
@@ -81,35 +83,31 @@ x,AAA,1,1,18446744073709551617 = volume
 x,AAA,1,x,x = volume
 ";
 
-fn append_answer(answer: Result<Option<CoarseRow>, Reason>, out: &mut String) -> Result<(), Fail> {
-    match answer {
-        Ok(Some(row)) => {
-            out.push_str(str::from_utf8(row.symbol.bytes()).map_err(|_| "a symbol in UTF-8")?)?;
-            write!(out, " {} {} {}", row.close.0, row.volume.0, row.dollars)?;
-        }
-        Ok(None) => out.push_str("skipped")?,
-        Err(reason) => out.push_str(reason.word())?,
+// What a text is read as.
+fn coarse(alloc: Global, text: &str) -> Result<String, Fail> {
+    match read_coarse(text.as_bytes()) {
+        Ok(Some(row)) => row_text(alloc, &row),
+        Ok(None) => Ok(String::from_str(alloc, "skipped")?),
+        Err(reason) => Ok(String::from_str(alloc, reason.word())?),
     }
-    Ok(())
 }
 
-// The cases with the answers of the reader.
-fn answered(rt: &HostRuntime, cases: &str) -> Result<String, Fail> {
-    let mut answers = String::new(rt.alloc());
-    for case in cases.lines() {
-        let (text, _) = case.split_once(" = ").ok_or("a case without an answer")?;
-        answers.push_str(text)?;
-        answers.push_str(" = ")?;
-        append_answer(read_coarse(text.as_bytes()), &mut answers)?;
-        answers.push('\n')?;
-    }
-    Ok(answers)
+fn row_text(alloc: Global, row: &CoarseRow) -> Result<String, Fail> {
+    let symbol = str::from_utf8(row.symbol.bytes())?;
+    Ok(format!(in alloc; "{symbol} {} {} {}", row.close.0, row.volume.0, row.dollars)?)
 }
 
 #[test]
-fn coarse_lines(rt: HostRuntime) -> Result<(), Fail> {
-    for cases in [ROWS, SKIPPED, REASONS] {
-        assert_eq!(rt; answered(&rt, cases)?.as_str(), cases);
-    }
-    Ok(())
+fn coarse_rows_are_read(rt: HostRuntime) -> Result<(), Fail> {
+    check(rt.alloc(), ROWS, coarse)
+}
+
+#[test]
+fn other_symbols_are_skipped(rt: HostRuntime) -> Result<(), Fail> {
+    check(rt.alloc(), SKIPPED, coarse)
+}
+
+#[test]
+fn the_first_reason_counts(rt: HostRuntime) -> Result<(), Fail> {
+    check(rt.alloc(), REASONS, coarse)
 }

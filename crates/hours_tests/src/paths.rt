@@ -1,7 +1,7 @@
 ghost use Rattle.std.specs.Prelude.{◌≤ℤ◌, pos, IfOk};
 ghost use Rattle.lean_fixed.specs.Calendar.{last_day};
 
-use crate::cases::{answered, none};
+use crate::cases::{check, none};
 use crate::hours::usual_file;
 use exchange_hours::Hours;
 use feed_paths::{next_file, path_text};
@@ -104,8 +104,7 @@ fn paths(alloc: Global, text: &str) -> Result<String, Fail> {
 
 #[test]
 fn lists_the_files_of_a_feed(rt: HostRuntime) -> Result<(), Fail> {
-    assert_eq!(rt; answered(rt.alloc(), FILES, paths)?.as_str(), FILES);
-    Ok(())
+    check(rt.alloc(), FILES, paths)
 }
 
 // The first file of all days, and those past the last day and past the greatest number.
@@ -142,6 +141,5 @@ fn numbers(alloc: Global, word: &str) -> Result<String, Fail> {
 
 #[test]
 fn ends_with_the_numbers(rt: HostRuntime) -> Result<(), Fail> {
-    assert_eq!(rt; answered(rt.alloc(), ENDS, numbers)?.as_str(), ENDS);
-    Ok(())
+    check(rt.alloc(), ENDS, numbers)
 }

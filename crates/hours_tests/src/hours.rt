@@ -1,4 +1,4 @@
-use crate::cases::{answered, none};
+use crate::cases::{check, none};
 use exchange_hours::{Hours, Session};
 use lean_fixed::{Day, Moment, Resolution};
 use std::alloc::{AllocError, Global};
@@ -59,9 +59,13 @@ fn file_fault(alloc: Global, text: &str) -> Result<String, Fail> {
 
 #[test]
 fn refuses_files_without_entry(rt: HostRuntime) -> Result<(), Fail> {
-    assert_eq!(rt; answered(rt.alloc(), FILES, file_fault)?.as_str(), FILES);
-    let broken = fault_of(rt.alloc(), b"{\"entries\": \"\xff\"}")?;
-    assert_eq!(rt; broken.as_str(), "Json");
+    check(rt.alloc(), FILES, file_fault)
+}
+
+#[test]
+fn refuses_bytes_that_are_no_text(rt: HostRuntime) -> Result<(), Fail> {
+    let fault = fault_of(rt.alloc(), b"{\"entries\": \"\xff\"}")?;
+    assert_eq!(rt; fault.as_str(), "Json");
     Ok(())
 }
 
@@ -156,10 +160,17 @@ fn time_fault(alloc: Global, time: &str) -> Result<String, Fail> {
 
 #[test]
 fn names_the_first_fault(rt: HostRuntime) -> Result<(), Fail> {
-    assert_eq!(rt; answered(rt.alloc(), FAULTS, entry_fault)?.as_str(), FAULTS);
-    assert_eq!(rt; answered(rt.alloc(), DATES, date_faults)?.as_str(), DATES);
-    assert_eq!(rt; answered(rt.alloc(), TIMES, time_fault)?.as_str(), TIMES);
-    Ok(())
+    check(rt.alloc(), FAULTS, entry_fault)
+}
+
+#[test]
+fn names_faults_of_dates(rt: HostRuntime) -> Result<(), Fail> {
+    check(rt.alloc(), DATES, date_faults)
+}
+
+#[test]
+fn names_faults_of_times(rt: HostRuntime) -> Result<(), Fail> {
+    check(rt.alloc(), TIMES, time_fault)
 }
 
 // The minutes of Monday 2013-10-07 between which its session is, by further members behind the usual week.
@@ -207,8 +218,7 @@ fn monday(alloc: Global, more: &str) -> Result<String, Fail> {
 
 #[test]
 fn gives_sessions(rt: HostRuntime) -> Result<(), Fail> {
-    assert_eq!(rt; answered(rt.alloc(), MONDAYS, monday)?.as_str(), MONDAYS);
-    Ok(())
+    check(rt.alloc(), MONDAYS, monday)
 }
 
 fn resolution_of(word: &str) -> Result<Resolution, Fail> {
@@ -310,20 +320,18 @@ fn outer_end(alloc: Global, text: &str) -> Result<String, Fail> {
 }
 
 #[test]
-fn finds_grid_ends(rt: HostRuntime) -> Result<(), Fail> {
-    assert_eq!(rt;
-        answered(rt.alloc(), USUAL_ENDS, usual_end)?.as_str(),
-        USUAL_ENDS
-    );
-    assert_eq!(rt;
-        answered(rt.alloc(), CLOSED_ENDS, closed_end)?.as_str(),
-        CLOSED_ENDS
-    );
-    assert_eq!(rt;
-        answered(rt.alloc(), OUTER_ENDS, outer_end)?.as_str(),
-        OUTER_ENDS
-    );
-    Ok(())
+fn finds_grid_ends_of_the_usual_week(rt: HostRuntime) -> Result<(), Fail> {
+    check(rt.alloc(), USUAL_ENDS, usual_end)
+}
+
+#[test]
+fn finds_grid_ends_around_closed_days(rt: HostRuntime) -> Result<(), Fail> {
+    check(rt.alloc(), CLOSED_ENDS, closed_end)
+}
+
+#[test]
+fn finds_the_first_and_the_last_grid_ends(rt: HostRuntime) -> Result<(), Fail> {
+    check(rt.alloc(), OUTER_ENDS, outer_end)
 }
 
 const CLOSINGS: &str = "\
@@ -369,36 +377,62 @@ fn openness(alloc: Global, text: &str) -> Result<String, Fail> {
 fn cross_threads<T: Send + Sync>(_: &T) {}
 
 #[test]
+fn finds_closings(rt: HostRuntime) -> Result<(), Fail> {
+    check(rt.alloc(), CLOSINGS, closing)
+}
+
+#[test]
 fn tells_when_the_exchange_is_open(rt: HostRuntime) -> Result<(), Fail> {
-    assert_eq!(rt; answered(rt.alloc(), CLOSINGS, closing)?.as_str(), CLOSINGS);
-    assert_eq!(rt;
-        answered(rt.alloc(), OPENINGS, openness)?.as_str(),
-        OPENINGS
-    );
-    let hours = read_usual(rt.alloc(), ALL_TUESDAY)?;
-    let first = minutes(rt.alloc(), hours.session(Day(0)), 0)?;
-    assert_eq!(rt; first.as_str(), "570 960");
-    let last = minutes(rt.alloc(), hours.session(Day(84_005)), 120_967_200)?;
-    assert_eq!(rt; last.as_str(), "0 1440");
+    check(rt.alloc(), OPENINGS, openness)
+}
+
+// The sessions of the first and of the last day.
+fn outer_sessions(alloc: Global) -> Result<String, Fail> {
+    let hours = read_usual(alloc, ALL_TUESDAY)?;
     cross_threads(&hours);
+    let first = minutes(alloc, hours.session(Day(0)), 0)?;
+    let last = minutes(alloc, hours.session(Day(84_005)), 120_967_200)?;
+    Ok(format!(in alloc; "{first}, {last}")?)
+}
+
+#[test]
+fn gives_the_first_and_the_last_session(rt: HostRuntime) -> Result<(), Fail> {
+    let said = outer_sessions(rt.alloc())?;
+    assert_eq!(rt; said.as_str(), "570 960, 0 1440");
     Ok(())
 }
 
-// A file of a mebibyte is read: a long text that is not looked at, and many holidays.
+// Appends a text so many times.
+fn push_times(text: &mut String, part: &str, times: u32) -> Result<(), AllocError> {
+    for _ in 0..times {
+        text.push_str(part)?;
+    }
+    Ok(())
+}
+
+// A long text that is not looked at, and many holidays.
+fn many_members(alloc: Global) -> Result<String, AllocError> {
+    let mut more = String::from_str(alloc, ",'comment':'")?;
+    push_times(&mut more, "ten bytes ", 60_000)?;
+    more.push_str("','holidays':['10/7/2013'")?;
+    push_times(&mut more, ",'1/2/1970'", 40_000)?;
+    more.push_str("]")?;
+    Ok(more)
+}
+
+// Whether a file has over a million bytes, and whether the exchange is open on the Monday and on the Tuesday.
+fn large_file(alloc: Global) -> Result<String, Fail> {
+    let more = many_members(alloc)?;
+    let hours = read_usual(alloc, &more)?;
+    let monday = hours.is_open(Moment(23_018_970));
+    let tuesday = hours.is_open(Moment(23_020_410));
+    Ok(format!(in alloc; "{} {monday} {tuesday}", more.len() > 1_000_000)?)
+}
+
+// A file of a mebibyte is read.
 #[test]
 fn reads_a_large_file(rt: HostRuntime) -> Result<(), Fail> {
-    let mut more = String::from_str(rt.alloc(), ",'comment':'")?;
-    for _ in 0..60_000 {
-        more.push_str("ten bytes ")?;
-    }
-    more.push_str("','holidays':['10/7/2013'")?;
-    for _ in 0..40_000 {
-        more.push_str(",'1/2/1970'")?;
-    }
-    more.push_str("]")?;
-    let hours = read_usual(rt.alloc(), more.as_str())?;
-    assert!(rt; more.len() > 1_000_000);
-    assert!(rt; !hours.is_open(Moment(23_018_970)));
-    assert!(rt; hours.is_open(Moment(23_020_410)));
+    let said = large_file(rt.alloc())?;
+    assert_eq!(rt; said.as_str(), "true false true");
     Ok(())
 }
