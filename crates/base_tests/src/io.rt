@@ -338,10 +338,10 @@ fn a_directory_is_read(rt: HostRuntime) -> Result<(), Fail> {
     let few = made(rt.alloc(), 6)?;
     fs::write(&rt, "lean_io.of_a_test", &many)?;
     fs::write(&rt, "lean_io.of_a_test_2", &few)?;
-    let checked = check_directory(rt);
+    check_directory(rt)?;
     fs::remove_file(&rt, "lean_io.of_a_test")?;
     fs::remove_file(&rt, "lean_io.of_a_test_2")?;
-    checked
+    Ok(())
 }
 
 #[test]
