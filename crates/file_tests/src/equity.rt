@@ -306,11 +306,18 @@ fn write_hour_of(text: &str, out: &mut Vec<u8>) -> Result<Option<Row>, NoMemory>
     }
 }
 
-// What is written for the row of a text, where it is read as the same row.
+// What was written behind a text, without its LF.
+fn line_behind<'a>(text: &str, out: &'a [u8]) -> Result<&'a str, Fail> {
+    let said = str::from_utf8(out)?;
+    let line = said.strip_prefix(text).ok_or("another text")?;
+    Ok(line.strip_suffix("\n").ok_or("no LF")?)
+}
+
+// What is written behind a text for its row, where it is read as the same row.
 fn written_minute(alloc: Global, text: &str) -> Result<String, Fail> {
-    let mut out = Vec::new(alloc);
+    let mut out = Vec::from_slice(alloc, text.as_bytes())?;
     let row = write_minute_of(text, &mut out)?.ok_or("a text without a row")?;
-    let line = str::from_utf8(&out)?.strip_suffix("\n").ok_or("no LF")?;
+    let line = line_behind(text, &out)?;
     if read_minute(Day(15_985), line.as_bytes()) != Ok(row) {
         return Err("another row")?;
     }
@@ -318,9 +325,9 @@ fn written_minute(alloc: Global, text: &str) -> Result<String, Fail> {
 }
 
 fn written_hour(alloc: Global, text: &str) -> Result<String, Fail> {
-    let mut out = Vec::new(alloc);
+    let mut out = Vec::from_slice(alloc, text.as_bytes())?;
     let row = write_hour_of(text, &mut out)?.ok_or("a text without a row")?;
-    let line = str::from_utf8(&out)?.strip_suffix("\n").ok_or("no LF")?;
+    let line = line_behind(text, &out)?;
     if read_dated(Resolution::Hour, line.as_bytes()) != Ok(row) {
         return Err("another row")?;
     }
