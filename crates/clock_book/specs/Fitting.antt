@@ -1,6 +1,6 @@
 -- Which commands may be given to a book: their numbers are in their ranges, and there are not too many orders. What is asked
 -- for by a request or an update may be any number, since the book itself tests it.
-use Rattle.std.specs.Prelude.{ℕ, ◌<◌, length}
+use Rattle.std.specs.Prelude.{◌≡◌, ℕ, ◌<◌, length}
 use Rattle.lean_fixed.specs.Ranges.{IsMoment, IsPrice, IsVolume}
 use Rattle.lean_orders.specs.declared.desk.PriceBar.{PriceBar}
 use Rattle.lean_orders.specs.declared.desk.Command.{Command}
@@ -39,14 +39,9 @@ submits (Update at id price) = 0
 submits (Cancel at id) = 0
 submits (Account at) = 0
 
--- a command may come where so many orders were submitted before it: a submit wants fewer than the most
+-- a command that adds an order may come where fewer than the most were submitted before it
 abbrev pub HasRoom : ℕ → Command → Type 0
-HasRoom orders (Mark at symbol bar) = Unit {0}
-HasRoom orders (Match at) = Unit {0}
-HasRoom orders (Submit at request) = orders < most_orders
-HasRoom orders (Update at id price) = Unit {0}
-HasRoom orders (Cancel at id) = Unit {0}
-HasRoom orders (Account at) = Unit {0}
+HasRoom orders command = submits command ≡ 1 → orders < most_orders
 
 -- a book may handle a command
 abbrev pub MayHandle : Book → Command → Type 0

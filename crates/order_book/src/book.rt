@@ -1,7 +1,9 @@
-use crate::bars::Bars;
-use indexmap::IndexMap;
+use crate::ledger::Ledger;
+use crate::market::Market;
+use crate::replies::say;
 use exchange_hours::Hours;
-use lean_fixed::{Money, NoMemory};
+use indexmap::IndexMap;
+use lean_fixed::{Moment, Money, NoMemory};
 use lean_orders::{Command, Fill, Order, Reply};
 use portfolio::Portfolio;
 use std::alloc::Global;
@@ -13,17 +15,9 @@ use trade_costs::Costs;
 /// see what it keeps as a `Kept` and say for which books, with the lists of all marks, orders and fills, it stands.
 #[derive(Drop)]
 pub struct Book {
-    pub(crate) costs: Costs,
+    pub(crate) market: Market,
     pub(crate) leverage: u32,
-    pub(crate) hours: Arc<Hours>,
-    pub(crate) portfolio: Portfolio,
-    // The order of an id stands at the place one less than it.
-    pub(crate) orders: Vec<Order>,
-    pub(crate) fills: Vec<Fill>,
-    // The places of the orders that may be live, rising. Those that were canceled leave at the next match.
-    pub(crate) live: Vec<u32>,
-    // Of each symbol that was marked by a real bar since the last match the last such bar.
-    pub(crate) bars: Bars,
+    pub(crate) ledger: Ledger,
 }
 
 impl Model for Book {
@@ -34,25 +28,25 @@ impl Model for Book {
     ghost Value = { Kept };
 
     ghost view = { λ b. record {
-      costs = b.costs;
+      costs = b.market.costs;
       leverage = b.leverage;
-      hours = arc_value b.hours;
-      account = b.portfolio;
-      orders = b.orders.items;
-      fills = b.fills.items;
-      live = b.live.items;
-      bars = b.bars.entries;
+      hours = arc_value b.market.hours;
+      account = b.ledger.portfolio;
+      orders = b.ledger.orders.items;
+      fills = b.ledger.fills.items;
+      live = b.ledger.live.items;
+      bars = b.market.bars.entries;
     } };
 
     ghost invariant = { λ b. IsKept (record {
-      costs = b.costs;
+      costs = b.market.costs;
       leverage = b.leverage;
-      hours = arc_value b.hours;
-      account = b.portfolio;
-      orders = b.orders.items;
-      fills = b.fills.items;
-      live = b.live.items;
-      bars = b.bars.entries;
+      hours = arc_value b.market.hours;
+      account = b.ledger.portfolio;
+      orders = b.ledger.orders.items;
+      fills = b.ledger.fills.items;
+      live = b.ledger.live.items;
+      bars = b.market.bars.entries;
     }) };
 }
 
@@ -63,8 +57,9 @@ impl Book {
     ghost use Rattle.lean_orders.specs.declared.desk.Reply.{Reply};
     ghost use Rattle.trade_costs.specs.Fees.{IsCosts};
     ghost use Rattle.portfolio.specs.Stands as account;
-    ghost use Rattle.clock_book.specs.Books.{Book, new_book, price_marks};
-    ghost use Rattle.clock_book.specs.Handled.{handled};
+    ghost use Rattle.clock_book.specs.Books as clock;
+    ghost use Rattle.clock_book.specs.Handled.{handled, handled_match};
+    ghost use Rattle.order_book.specs.Serves.{Serves};
     ghost use Rattle.clock_book.specs.Fitting.{IsFitting, HasRoom, submits, most_orders};
     ghost use Rattle.order_book.specs.Kept.{order_count};
     ghost use Rattle.order_book.specs.Stands.{StandsFor};
@@ -75,18 +70,22 @@ impl Book {
         requires cash { IsStartingCash cash.0 }
         requires costs { IsCosts costs }
         requires leverage { IsLeverage leverage }
-        ensures stands { StandsFor result (new_book cash.0 costs leverage (arc_value hours)) }
+        ensures stands { StandsFor result (clock.new_book cash.0 costs leverage (arc_value hours)) }
         ensures count { order_count result ≡ 0 }
     {
         Book {
-            costs,
+            market: Market {
+                costs,
+                hours,
+                bars: IndexMap::new(alloc),
+            },
             leverage,
-            hours,
-            portfolio: Portfolio::new(alloc, cash),
-            orders: Vec::new(alloc),
-            fills: Vec::new(alloc),
-            live: Vec::new(alloc),
-            bars: IndexMap::new(alloc),
+            ledger: Ledger {
+                portfolio: Portfolio::new(alloc, cash),
+                orders: Vec::new(alloc),
+                fills: Vec::new(alloc),
+                live: Vec::new(alloc),
+            },
         }
     }
 
@@ -96,9 +95,9 @@ impl Book {
     pub fn handle(&mut self, command: &Command, out: &mut Vec<Reply>) -> Result<(), NoMemory>
         requires fits { IsFitting command.now }
         requires room { HasRoom (order_count self.old) command.now }
-        ensures stands { (book : Book) → StandsFor self.old book
+        ensures stands { (book : clock.Book) → StandsFor self.old book
             → OnOk result (StandsFor self.new (handled book command.now).book) }
-        ensures replies { (book : Book) → StandsFor self.old book
+        ensures replies { (book : clock.Book) → StandsFor self.old book
             → OnOk result (out.new.items ≡ out.old.items ++ (handled book command.now).replies) }
         ensures count { OnOk result
             (order_count self.new ≡ order_count self.old + submits command.now) }
@@ -119,24 +118,41 @@ impl Book {
 
     /// All orders by id: that of id 1 first. Those that were refused are among them.
     pub fn orders(&self) -> &[Order]
-        ensures stands { (book : Book) → StandsFor self.now book → result.now ≡ book.orders }
+        ensures stands { (book : clock.Book) → StandsFor self.now book → result.now ≡ book.orders }
         ensures count { length result.now ≡ order_count self.now }
     {
-        &self.orders
+        &self.ledger.orders
     }
 
     /// All fills, in the order in which they came.
     pub fn fills(&self) -> &[Fill]
-        ensures stands { (book : Book) → StandsFor self.now book → result.now ≡ book.fills }
+        ensures stands { (book : clock.Book) → StandsFor self.now book → result.now ≡ book.fills }
     {
-        &self.fills
+        &self.ledger.fills
     }
 
     /// The account: it is that of all fills, with the prices of all marks.
     pub fn portfolio(&self) -> &Portfolio
-        ensures stands { (book : Book) → StandsFor self.now book
-            → account.StandsFor result.now book.start book.fills (price_marks book) }
+        ensures stands { (book : clock.Book) → StandsFor self.now book
+            → account.StandsFor result.now book.start book.fills (clock.price_marks book) }
     {
-        &self.portfolio
+        &self.ledger.portfolio
+    }
+
+    // Tries the live orders, by id, on the bars since they were last tried.
+    fn match_orders(&mut self, at: Moment, out: &mut Vec<Reply>) -> Result<(), NoMemory>
+        ensures ok { OnOk result (Serves (λ book. handled_match book at) 0
+            self.old self.new out.old.items out.new.items) }
+        ensures kept { OnErr result (self.new ≡ self.old) }
+        ensures unsaid { OnErr result (out.new.items ≡ out.old.items) }
+    {
+        let most = self.ledger.live.len();
+        out.reserve(most + 1)?;
+        self.ledger.fills.reserve(most)?;
+        self.market.try_all(&mut self.ledger, at, out);
+        self.ledger.prune();
+        self.market.bars.clear();
+        say(&[Reply::Done], out);
+        Ok(())
     }
 }

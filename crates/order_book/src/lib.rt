@@ -4,12 +4,11 @@
 //! tried.
 #![tactic(auto)]
 
-mod bars;
 mod book;
-mod cancel;
-mod fills;
-mod live;
+mod judge;
+mod ledger;
 mod mark;
+mod market;
 mod matches;
 mod orders;
 mod replies;
