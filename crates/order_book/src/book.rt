@@ -51,7 +51,7 @@ impl Model for Book {
 }
 
 impl Book {
-    ghost use Rattle.std.specs.Prelude.{◌≡◌, ◌+◌, ◌≤◌, ℕ, List, [], ◌++◌, length, OnOk, OnErr};
+    ghost use Rattle.std.specs.Prelude.{◌≡◌, ◌+◌, ◌≤◌, List, ◌++◌, length, OnOk, OnErr};
     ghost use Rattle.std.specs.Arc.{arc_value};
     ghost use Rattle.lean_fixed.specs.Ranges.{IsStartingCash, IsLeverage};
     ghost use Rattle.lean_orders.specs.declared.desk.Reply.{Reply};
@@ -151,7 +151,7 @@ impl Book {
         self.ledger.fills.reserve(most)?;
         self.market.try_all(&mut self.ledger, at, out);
         self.ledger.prune();
-        self.market.bars.clear();
+        self.market.forget();
         say(&[Reply::Done], out);
         Ok(())
     }

@@ -1,5 +1,5 @@
 //! What is against a request.
-ghost use Rattle.std.specs.Prelude.{◌≡◌, true, IfSome};
+ghost use Rattle.std.specs.Prelude.{◌≡◌, IfSome};
 ghost use Rattle.std.specs.Bool.{OnTrue};
 ghost use Rattle.lean_fixed.specs.Ranges.{IsPrice, IsQuantity};
 ghost use Rattle.clock_book.specs.Submits.{is_quantity, is_price, is_priced};
@@ -12,7 +12,7 @@ use lean_fixed::{Money, Price, Shares};
 use lean_orders::{Cause, Request};
 
 impl Book {
-    ghost use Rattle.std.specs.Prelude.{◌≡◌, true, Option, Some, None, IfOk, IfNone};
+    ghost use Rattle.std.specs.Prelude.{◌≡◌, Option, Some, None, IfOk, IfNone};
     ghost use Rattle.lean_fixed.specs.Ranges.{IsPrice, IsQuantity};
     ghost use Rattle.buying_power.specs.Buying.{IsPower};
     ghost use Rattle.clock_book.specs.Books as clock;

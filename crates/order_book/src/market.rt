@@ -1,9 +1,6 @@
 //! What decides on fills: the costs, the hours, and the bars on which the orders are still to be tried.
-ghost use Rattle.std.specs.Prelude.{◌≡◌, true, option_map, IfSome};
-ghost use Rattle.lean_fixed.specs.Ranges.{IsFillPrice};
-ghost use Rattle.exchange_hours.specs.Entries.{Entries};
+ghost use Rattle.std.specs.Prelude.{◌≡◌, option_map};
 ghost use Rattle.clock_book.specs.Books.{is_live, table_bar, opening_of};
-ghost use Rattle.fill_models.specs.FillPrice.{fill_price};
 
 use exchange_hours::Hours;
 use fill_models::try_fill;
@@ -25,7 +22,7 @@ pub(crate) struct Market {
 }
 
 impl Market {
-    ghost use Rattle.std.specs.Prelude.{◌≡◌, ◌<◌, ◌&&◌, ℕ, List, Some, true, option_map, option_and_then, IfSome, if◌then◌else◌};
+    ghost use Rattle.std.specs.Prelude.{◌≡◌, ◌<◌, ◌&&◌, [], ℕ, List, Some, true, IfSome, if◌then◌else◌};
     ghost use Rattle.std.specs.Arc.{arc_value};
     ghost use Rattle.std.specs.Map.{lookup};
     ghost use Rattle.indexmap.specs.IndexMap.{spare};
@@ -33,7 +30,7 @@ impl Market {
     ghost use Rattle.lean_orders.specs.Traded.{IsFill};
     ghost use Rattle.portfolio.specs.Symbols.{same_symbol};
     ghost use Rattle.trade_costs.specs.Fees.{IsCosts, slipped};
-    ghost use Rattle.fill_models.specs.FillPrice.{fill_price, side_of};
+    ghost use Rattle.fill_models.specs.FillPrice.{side_of};
     ghost use Rattle.clock_book.specs.Books.{is_live, table_bar, opening_of};
     ghost use Rattle.clock_book.specs.Submits.{fill_at};
     ghost use Rattle.order_book.specs.Filling.{fill_on, filling};
@@ -58,6 +55,15 @@ impl Market {
             Ok(_) => (),
             Err(_) => unreachable!(),
         }
+    }
+
+    // No bar is left on which orders are to be tried.
+    pub(crate) fn forget(&mut self)
+        ensures bars { self.new.bars.entries ≡ [] }
+        ensures costs { self.new.costs ≡ self.old.costs }
+        ensures hours { arc_value self.new.hours ≡ arc_value self.old.hours }
+    {
+        self.bars.clear();
     }
 
     // The fill of an order by the bar of its symbol. `None` exactly where the order is not live, there is no bar, the bar's

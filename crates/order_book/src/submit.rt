@@ -5,7 +5,7 @@ use lean_fixed::{Moment, NoMemory, Price};
 use lean_orders::{Cause, Kind, OrderState, Reply, Request, What};
 
 impl Book {
-    ghost use Rattle.std.specs.Prelude.{◌≡◌, ◌+◌, ◌<◌, length, OnOk, OnErr};
+    ghost use Rattle.std.specs.Prelude.{◌≡◌, ◌+◌, ◌<◌, OnOk, OnErr};
     ghost use Rattle.lean_fixed.specs.Ranges.{IsPrice};
     ghost use Rattle.lean_orders.specs.declared.order.Kind.TheVariants.{Market};
     ghost use Rattle.clock_book.specs.Fitting.{most_orders};
