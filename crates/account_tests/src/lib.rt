@@ -1,6 +1,8 @@
-//! Tests of orders, costs, fills, accounts and buying power by their public calls: outside values as lines of text.
+//! Tests of orders, costs, fills, accounts, buying power and the book by their public calls: outside values as lines of text.
 #![tactic(auto)]
 
+#[cfg(test)]
+mod books;
 #[cfg(test)]
 mod cases;
 #[cfg(test)]

@@ -1,19 +1,16 @@
 -- What each command does to a book and what it replies.
-use Rattle.std.specs.Prelude.{ℕ, ◌==◌, ℤ, Bool, not, ◌||◌, if◌then◌else◌, List, [], ◌∷◌, ◌++◌, map, Option, Some, None}
+use Rattle.std.specs.Prelude.{ℕ, ◌==◌, ℤ, not, ◌||◌, if◌then◌else◌, List, [], ◌∷◌, ◌++◌, map, Option, Some, None}
 use Rattle.lean_fixed.specs.declared.money.Price.{Price}
-use Rattle.lean_fixed.specs.declared.money.Money.{Money}
 use Rattle.lean_fixed.specs.declared.time.Moment.{Moment}
 use Rattle.exchange_hours.specs.Sessions.{is_open_at}
 use Rattle.lean_orders.specs.declared.order.Kind.{Kind}
 use Rattle.lean_orders.specs.declared.order.Kind.TheVariants.{Market, Limit, Stop, AtOpen}
 use Rattle.lean_orders.specs.declared.order.Request.{Request}
 use Rattle.lean_orders.specs.declared.order.Order.{Order}
-use Rattle.lean_orders.specs.declared.order.OrderState.{OrderState}
 use Rattle.lean_orders.specs.declared.order.OrderState.TheVariants as state
 use Rattle.lean_orders.specs.declared.event.Cause.{Cause}
 use Rattle.lean_orders.specs.declared.event.Cause.TheVariants.{PriceForm, Unknown, Closed}
 use Rattle.lean_orders.specs.declared.event.Fill.{Fill}
-use Rattle.lean_orders.specs.declared.event.OrderEvent.{OrderEvent}
 use Rattle.lean_orders.specs.declared.event.What.{What}
 use Rattle.lean_orders.specs.declared.event.What.TheVariants as what
 use Rattle.lean_orders.specs.declared.desk.PriceBar.{PriceBar}

@@ -2,4 +2,5 @@ pub mod Books
 pub mod Submits
 pub mod Matches
 pub mod Handled
+pub mod Fitting
 pub mod Worked

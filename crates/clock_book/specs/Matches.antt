@@ -1,12 +1,11 @@
 -- A match: which live orders are filled by the bars since the last one.
-use Rattle.std.specs.Prelude.{ℕ, ℤ, Bool, true, false, is_some, if◌then◌else◌, List, ◌++◌, length, map, Option, Some, None, option_map, option_and_then}
+use Rattle.std.specs.Prelude.{is_some, if◌then◌else◌, List, ◌++◌, length, map, Option, Some, None, option_map, option_and_then}
 use Rattle.std.specs.List.{filter_map}
 use Rattle.lean_fixed.specs.declared.time.Moment.{Moment}
 use Rattle.lean_orders.specs.declared.order.Order.{Order}
 use Rattle.lean_orders.specs.declared.order.OrderState.{OrderState}
 use Rattle.lean_orders.specs.declared.order.OrderState.TheVariants.{Filled}
 use Rattle.lean_orders.specs.declared.event.Fill.{Fill}
-use Rattle.lean_orders.specs.declared.event.OrderEvent.{OrderEvent}
 use Rattle.lean_orders.specs.declared.event.What.TheVariants as what
 use Rattle.lean_orders.specs.declared.desk.PriceBar.{PriceBar}
 use Rattle.lean_orders.specs.declared.desk.Reply.{Reply}

@@ -1,9 +1,8 @@
 -- A submit: the first cause for which it is refused, or the order that it makes.
-use Rattle.std.specs.Prelude.{ℕ, ◌+◌, nat_le, nat_eq, ◌==◌, ℤ, pos, unsigned_abs, int_le, Bool, true, false, not, ◌&&◌, ◌||◌, if◌then◌else◌, List, length, Option, Some, None}
+use Rattle.std.specs.Prelude.{ℕ, ◌+◌, nat_le, ◌==◌, ℤ, pos, unsigned_abs, int_le, Bool, true, false, not, ◌&&◌, if◌then◌else◌, List, length, Option, Some, None}
 use Rattle.lean_fixed.specs.Ranges.{most_quantity, most_price}
 use Rattle.lean_fixed.specs.declared.money.Price.{Price}
 use Rattle.lean_fixed.specs.declared.time.Moment.{Moment}
-use Rattle.exchange_hours.specs.Sessions.{is_open_at}
 use Rattle.lean_orders.specs.declared.order.Kind.{Kind}
 use Rattle.lean_orders.specs.declared.order.Kind.TheVariants.{Market, Limit, Stop, AtOpen}
 use Rattle.lean_orders.specs.declared.order.Request.{Request}

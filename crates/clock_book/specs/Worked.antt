@@ -1,5 +1,5 @@
 -- A new book and some commands, small enough to compute the replies on.
-use Rattle.std.specs.Prelude.{ℕ, ◌+◌, ℤ, pos, true, List, [], ◌∷◌, map, Option, Some, None}
+use Rattle.std.specs.Prelude.{ℕ, ◌+◌, ℤ, pos, true, List, [], ◌∷◌, map, Option}
 use Rattle.exchange_hours.specs.Entries.{Entries}
 use Rattle.exchange_hours.specs.Worked.{usual_segment}
 use Rattle.lean_fixed.specs.declared.money.Price.{Price}
@@ -10,7 +10,6 @@ use Rattle.lean_orders.specs.declared.desk.Reply.TheVariants.{Event}
 use Rattle.lean_orders.specs.declared.event.What.{What}
 use Rattle.lean_orders.specs.declared.order.Kind.{Kind}
 use Rattle.lean_orders.specs.declared.order.Request.{Request}
-use Rattle.trade_costs.specs.declared.costs.Costs.{Costs}
 use Rattle.clock_book.specs.Books.{Book, new_book}
 
 -- from Monday to Friday, 09:30 to 16:00

@@ -1,0 +1,95 @@
+-- What holds of the orders and the account holds still after an order more, a fill and another order in the place of one.
+use Rattle.std.proofs.Common.{◌≡◌, ℕ, ◌+◌, ◌<◌, Bool, true, false, cond, ◌||◌, List, [], ◌∷◌, ◌++◌, length, set, Some, refl, sym, ap, subst, ◌∙◌, arith, true≢false}
+use Rattle.std.specs.List.{slice_get, All}
+use Rattle.std.proofs.lemmas.List.{length-set, length_push}
+use Rattle.std.proofs.lemmas.List.Folds.{list_any-append}
+use Rattle.std.proofs.lemmas.List.Elements.{All-push, All-set, All-weaker}
+use Rattle.lean_orders.specs.declared.order.Order.{Order}
+use Rattle.lean_orders.specs.declared.order.OrderState.{OrderState}
+use Rattle.lean_orders.specs.declared.order.OrderState.TheVariants.{Live, Filled, Canceled, Refused}
+use Rattle.portfolio.specs.Account.{Account, held}
+use Rattle.portfolio.specs.Stands.{fills_applied, most_fills}
+use Rattle.portfolio.specs.Symbols.{is_among, same_symbol}
+use Rattle.clock_book.specs.Books.{is_live}
+use Rattle.clock_book.specs.Fitting.{most_orders}
+use Rattle.clock_book.specs.Matches.{in_state}
+use Rattle.order_book.specs.Resting.{AreKept, RestsWhereLive, is_filled}
+use Rattle.order_book.proofs.OrderLemmas.{numbered_push, numbered_set, id_at, count_push, count_set, count_le, count_lt, filled_one}
+
+pub live_not_filled : (state : OrderState) → is_live state ≡ true → is_filled state ≡ false
+live_not_filled Live h = refl
+live_not_filled Filled h = absurd (true≢false (sym h))
+live_not_filled Canceled h = refl
+live_not_filled Refused h = refl
+
+pub few_applied : (account : Account) (orders : List Order) → AreKept account orders → length orders < most_orders → fills_applied account < most_fills
+few_applied account orders kept few = omega (arith, kept.applied, count_le orders)
+
+pub fewer_applied : (account : Account) (orders : List Order) (k : ℕ) (o : Order) → AreKept account orders → slice_get orders k ≡ Some o → is_live o.state ≡ true
+    → fills_applied account < most_fills
+fewer_applied account orders k o kept at lives = omega (arith, kept.applied, kept.few, count_lt orders k o at (live_not_filled o.state lives))
+
+pub kept_push : (account : Account) (orders : List Order) (o : Order) → AreKept account orders → length orders < most_orders → o.id ≡ length orders + 1
+    → RestsWhereLive (held account) o → is_filled o.state ≡ false → AreKept account (orders ++ o ∷ [])
+kept_push account orders o kept few id rests unfilled = record {
+  numbered = numbered_push 1 orders o kept.numbered (omega (arith, id));
+  few = omega (arith, length_push orders o);
+  resting = All-push (RestsWhereLive (held account)) orders o kept.resting rests;
+  applied = omega (arith, kept.applied, count_push orders o, ap filled_one unfilled);
+}
+
+rests_dead : (symbols : List (List ℕ)) (o : Order) → is_live o.state ≡ false → RestsWhereLive symbols o
+rests_dead symbols o dead lives = absurd (true≢false (sym lives ∙ dead))
+
+resting_same : (old new : Account) (orders : List Order) → held new ≡ held old → All (RestsWhereLive (held old)) orders → All (RestsWhereLive (held new)) orders
+resting_same old new orders same h = subst (λ symbols. All (RestsWhereLive symbols) orders) (sym same) h
+
+pub kept_push_filled : (old new : Account) (orders : List Order) (o : Order) → AreKept old orders → length orders < most_orders → o.id ≡ length orders + 1
+    → o.state ≡ Filled → held new ≡ held old → fills_applied new ≡ fills_applied old + 1 → AreKept new (orders ++ o ∷ [])
+kept_push_filled old new orders o kept few id filled same more = record {
+  numbered = numbered_push 1 orders o kept.numbered (omega (arith, id));
+  few = omega (arith, length_push orders o);
+  resting = All-push (RestsWhereLive (held new)) orders o (resting_same old new orders same kept.resting) (rests_dead (held new) o (ap is_live filled));
+  applied = omega (arith, kept.applied, count_push orders o, ap (λ state. filled_one (is_filled state)) filled, more);
+}
+
+pub kept_fill : (old new : Account) (orders : List Order) (k : ℕ) (o : Order) → AreKept old orders → slice_get orders k ≡ Some o → is_live o.state ≡ true
+    → held new ≡ held old → fills_applied new ≡ fills_applied old + 1 → AreKept new (set orders k (in_state Filled o))
+kept_fill old new orders k o kept at lives same more = record {
+  numbered = numbered_set 1 k orders (in_state Filled o) kept.numbered (id_at 1 k orders o kept.numbered at);
+  few = omega (arith, length-set orders k (in_state Filled o), kept.few);
+  resting = All-set (RestsWhereLive (held new)) orders k (in_state Filled o) (rests_dead (held new) (in_state Filled o) refl) (resting_same old new orders same kept.resting);
+  applied = omega (arith, kept.applied, count_set orders k o (in_state Filled o) at (live_not_filled o.state lives), more);
+}
+
+pub kept_put : (account : Account) (orders : List Order) (k : ℕ) (old o : Order) → AreKept account orders → slice_get orders k ≡ Some old → is_live old.state ≡ true
+    → o.id ≡ 1 + k → RestsWhereLive (held account) o → is_filled o.state ≡ false → AreKept account (set orders k o)
+kept_put account orders k old o kept at lives id rests unfilled = record {
+  numbered = numbered_set 1 k orders o kept.numbered id;
+  few = omega (arith, length-set orders k o, kept.few);
+  resting = All-set (RestsWhereLive (held account)) orders k o rests kept.resting;
+  applied = omega (arith, kept.applied, count_set orders k old o at (live_not_filled old.state lives), ap filled_one unfilled);
+}
+
+rests_more : (old new : List (List ℕ)) → ((s : List ℕ) → is_among s old ≡ true → is_among s new ≡ true) → (o : Order) → RestsWhereLive old o → RestsWhereLive new o
+rests_more old new more o h lives = record { ranged = (h lives).ranged; held = more o.symbol (h lives).held }
+
+pub kept_held : (old new : Account) (orders : List Order) → AreKept old orders → ((s : List ℕ) → is_among s (held old) ≡ true → is_among s (held new) ≡ true)
+    → fills_applied new ≡ fills_applied old → AreKept new orders
+kept_held old new orders kept more same = record {
+  numbered = kept.numbered;
+  few = kept.few;
+  resting = All-weaker (RestsWhereLive (held old)) (RestsWhereLive (held new)) (rests_more (held old) (held new) more) orders kept.resting;
+  applied = same ∙ kept.applied;
+}
+
+-- the symbols of which there are entries, and one more
+appended : (s symbol : List ℕ) (xs : List (List ℕ)) → is_among s xs ≡ true → is_among s (xs ++ symbol ∷ []) ≡ true
+appended s symbol xs h = list_any-append (same_symbol s) xs (symbol ∷ []) ∙ ap (λ b. b || is_among s (symbol ∷ [])) h
+
+by : (b : Bool) (s symbol : List ℕ) (xs : List (List ℕ)) → is_among s xs ≡ true → is_among s (cond b xs (xs ++ symbol ∷ [])) ≡ true
+by true s symbol xs h = h
+by false s symbol xs h = appended s symbol xs h
+
+pub among_more : (s symbol : List ℕ) (xs ys : List (List ℕ)) → ys ≡ cond (is_among symbol xs) xs (xs ++ symbol ∷ []) → is_among s xs ≡ true → is_among s ys ≡ true
+among_more s symbol xs ys is h = ap (is_among s) is ∙ by (is_among symbol xs) s symbol xs h

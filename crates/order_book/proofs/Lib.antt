@@ -1,0 +1,7 @@
+pub mod OrderLemmas
+pub mod KeptLemmas
+pub mod BarLemmas
+pub mod TriesLemmas
+pub mod StandsLemmas
+pub mod HoursLemmas
+pub mod ServesLemmas
