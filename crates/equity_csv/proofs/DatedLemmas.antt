@@ -1,12 +1,14 @@
 -- A good time of an hour or daily row is fourteen bytes without a comma.
-use Rattle.std.proofs.Common.{◌≡◌, ℕ, ◌+◌, ◌*◌, ◌==◌, Bool, true, false, ◌&&◌, if◌then◌else◌, nat_le, pos, unsigned_abs, List, [], ◌∷◌, ◌++◌, length, take, drop, Option, Some, None, option_map, refl, sym, ap, subst, arith, length-drop, take-append-drop}
+use Rattle.std.proofs.Common.{◌≡◌, ℕ, ◌+◌, ◌*◌, ◌==◌, Bool, true, false, ◌&&◌, if◌then◌else◌, nat_le, pos, unsigned_abs, List, [], ◌∷◌, ◌++◌, length, take, drop, Option, Some, None, option_map, refl, sym, ap, ◌∙◌, subst, arith, length-drop, take-append-drop}
 use Rattle.std.specs.List.{list_all}
 use Rattle.std.proofs.lemmas.Bool.Decides.{nat_tests}
 use Rattle.lean_fixed.specs.Digits.{is_digit, value_of}
 use Rattle.lean_fixed.specs.Moments.{midnight}
 use Rattle.lean_fixed.specs.Calendar.{day_of_digits, is_civil, spelled, day_number}
 use Rattle.lean_fixed.specs.declared.resolution.Resolution.{Resolution}
+use Rattle.lean_fixed.specs.Printed.{day_text}
 use Rattle.lean_fixed.specs.declared.time.Day.{Day}
+use Rattle.equity_csv.specs.Dates.{Spells}
 use Rattle.equity_csv.specs.Rows.{kept_if, hour_in, has_hour, start_of, dated_start}
 use Rattle.equity_csv.proofs.JoinLemmas.{no_comma}
 
@@ -130,3 +132,7 @@ day-read (Some n) day e = let same : day ≡ day_at n = cc in ap (λ (d : Day). 
 
 pub dated-both : (resolution : Resolution) (day hour : Option ℕ) (d : Day) (h : ℕ) → Some d ≡ option_map day_at day → Some h ≡ hour → has_hour resolution h ≡ true → Some (midnight (unsigned_abs d.0) + h * 60) ≡ start_of day (kept_if (has_hour resolution) hour)
 dated-both r day hour d h e f k = rw (day-read day d e) (rw (← f) (rw k))
+
+-- the first day that there is, from its text
+pub first_spelled : (digits : List ℕ) → digits ≡ day_text 0 → day_of_digits (day_text 0) ≡ Some 0 → Spells digits (day_at 0)
+first_spelled digits e s = ap (option_map day_at) (ap day_of_digits e ∙ s)

@@ -10,3 +10,4 @@ pub mod ReadBackLemmas
 pub mod SaidLemmas
 pub mod LengthLemmas
 pub mod PlainLemmas
+pub mod StepLemmas

@@ -36,7 +36,7 @@ all-digits (b ∷ ds) h =
     let there : list_all is_digit ds ≡ true = grind (arith, nat_tests) in
     (digit-below b here, all-digits ds there)
 
-front-digits : (text : List ℕ) → list_all is_digit (take (prefix_len is_digit text) text) ≡ true
+pub front-digits : (text : List ℕ) → list_all is_digit (take (prefix_len is_digit text) text) ≡ true
 front-digits [] = refl
 front-digits (b ∷ text) =
     elim (is_digit b) as (λ v. is_digit b ≡ v → list_all is_digit (take (if v then 1 + prefix_len is_digit text else 0) (b ∷ text)) ≡ true) [
@@ -45,7 +45,7 @@ front-digits (b ∷ text) =
     ] refl
 
 -- the number of the digits, which is below 10^18 where they are at most eighteen
-plain-value : (ds : List ℕ) → list_all is_digit ds ≡ true → length ds ≤ 18 → (value_of ds < 10 ^ 18) × (digits_value 10 ds % 2 ^ 64 ≡ value_of ds)
+pub plain-value : (ds : List ℕ) → list_all is_digit ds ≡ true → length ds ≤ 18 → (value_of ds < 10 ^ 18) × (digits_value 10 ds % 2 ^ 64 ≡ value_of ds)
 plain-value ds h k =
     let same : digits_value 10 ds ≡ value_of ds = value-same 0 ds h in
     let lt : digits_value 10 ds < 10 ^ length ds = digits_value-lt 10 ds (all-digits ds h) in

@@ -60,3 +60,8 @@ pub dated-taken : (resolution : Resolution) (text : List ℕ) (n : ℕ) → 14 <
 dated-taken r text n h c e =
     let split = fields-split text 14 h c (dated-plain r (take 14 text) n (sym e)).plain in
     sym (ap (first_of (dated_start r)) split ∙ first_of-begun (dated_start r) (take 14 text) (fields (drop 15 text)) n (fields-begin (drop 15 text)) (sym e))
+
+-- the same whatever the reader of the time finds
+pub dated-either : (resolution : Resolution) (text : List ℕ) (found : Option ℕ) → 14 < length text → get_or text 14 0 ≡ 44 → found ≡ dated_start resolution (take 14 text) → option_map (with_more (fields (drop 15 text))) found ≡ first_of (dated_start resolution) (fields text)
+dated-either r text None h c e = dated-not_timed r text (λ t. cc (t.said, e))
+dated-either r text (Some n) h c e = dated-taken r text n h c e

@@ -157,3 +157,15 @@ untimed time (at ∷ o ∷ h ∷ l ∷ c ∷ []) e = refl
 untimed time (at ∷ o ∷ h ∷ l ∷ c ∷ v ∷ more) e =
     ap (λ x. Err (if x then Time else Fields)) (six more)
     ∙ no_time (time at) (o ∷ h ∷ l ∷ c ∷ v ∷ more) (price_in o) (price_in h) (price_in l) (price_in c) (volume_in v) e
+
+-- a reader whose number is counted on from another one
+pub first_of-mapped : (read : List ℕ → Option ℕ) (g : ℕ → ℕ) (all : List (List ℕ)) (n : ℕ) (rest : List (List ℕ)) → first_of read all ≡ Some (with_more rest n) → first_of (λ f. option_map g (read f)) all ≡ Some (with_more rest (g n))
+first_of-mapped read g [] n rest e = cc
+first_of-mapped read g (field ∷ []) n rest e = cc
+first_of-mapped read g (field ∷ next ∷ more) n rest e =
+    elim (read field) as (λ v. option_map (with_more (next ∷ more)) v ≡ Some (with_more rest n) → option_map (with_more (next ∷ more)) (option_map g v) ≡ Some (with_more rest (g n))) [
+      | None ↦ λ h. cc
+      | Some m ↦ λ h.
+          let same : with_more (next ∷ more) m ≡ with_more rest n = cc in
+          ap (λ (p : ℕ × List (List ℕ)). Some (with_more p.1 (g p.0))) same
+    ] e

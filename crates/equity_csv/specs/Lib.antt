@@ -1,3 +1,4 @@
+pub mod Dates
 pub mod Rows
 pub mod Reading
 pub mod Written

@@ -1,19 +1,19 @@
 //! The reader of hour and daily files.
 
-ghost use Rattle.std.specs.Prelude.{◌≡◌, ◌+◌, ◌*◌, ◌<◌, ◌≤◌, ◌&&◌, if◌then◌else◌, List, [], ◌∷◌, IfSome};
+ghost use Rattle.std.specs.Prelude.{◌≡◌, ◌+◌, ◌*◌, ◌<◌, ◌≤◌, ◌&&◌, if◌then◌else◌, List, [], ◌∷◌, length, drop, option_map, IfSome};
 ghost use Rattle.lean_fixed.specs.Calendar.{last_day};
 ghost use Rattle.lean_fixed.specs.Digits.{is_digit, value_of};
 ghost use Rattle.lean_fixed.specs.Fields.{fields};
 ghost use Rattle.lean_fixed.specs.Moments.{midnight};
 ghost use Rattle.equity_csv.specs.Rows.{IsDated, hour_in, has_hour, dated_start, dated_row};
-ghost use Rattle.equity_csv.specs.Reading.{first_of, number_and_rest};
+ghost use Rattle.equity_csv.specs.Reading.{first_of};
 
+use crate::dates::Dates;
 use crate::fields::without_start;
 use crate::minute::first_minute;
-use crate::number::Leading;
 use crate::row::Row;
 use crate::values::read_values;
-use lean_fixed::{Day, Resolution};
+use lean_fixed::Resolution;
 use lean_items::Reason;
 
 /// The bytes of a time such as "20131007 15:00".
@@ -29,35 +29,47 @@ pub fn read_dated(resolution: Resolution, text: &[u8]) -> Result<Row, Reason>
     requires { IsDated resolution }
     ensures { result ≡ dated_row resolution text.now }
 {
-    match take_start(resolution, text) {
-        Some(time) => read_values(time.number, time.behind),
+    read_dated_by(&mut Dates::new(), resolution, text)
+}
+
+/// The same with the last date that was read, for lines of which many have the same date one after the other.
+#[inline(always)]
+pub fn read_dated_by(dates: &mut Dates, resolution: Resolution, text: &[u8]) -> Result<Row, Reason>
+    requires { IsDated resolution }
+    ensures { result ≡ dated_row resolution text.now }
+{
+    match take_start(dates, resolution, text) {
+        Some(start) => read_values(start, text, TIME + 1),
         None => Err(without_start(text)),
     }
 }
 
-// The minute since 1970-01-01 00:00 at which the row starts.
-fn take_start(resolution: Resolution, text: &[u8]) -> Option<Leading<'_>>
-    ensures read { number_and_rest result ≡ first_of (dated_start resolution) (fields text.now) }
-    ensures most { IfSome result (λ t. t.number < midnight (last_day + 1)) }
+// The minute since 1970-01-01 00:00 at which the row starts, where a comma stands behind its time.
+#[inline(always)]
+fn take_start(dates: &mut Dates, resolution: Resolution, text: &[u8]) -> Option<u64>
+    ensures read { option_map (λ n. (n, fields (drop 15 text.now))) result
+        ≡ first_of (dated_start resolution) (fields text.now) }
+    ensures most { IfSome result (λ n. n < midnight (last_day + 1)) }
+    ensures within { IfSome result (λ _. 15 ≤ length text.now) }
 {
     if text.len() <= TIME || text[TIME] != b',' {
         return None;
     }
-    let number = dated_start(resolution, &text[..TIME])?;
-    Some(Leading {
-        number,
-        behind: &text[TIME + 1..],
-    })
+    dated_start(dates, resolution, &text[..TIME])
 }
 
-fn dated_start(resolution: Resolution, time: &[u8]) -> Option<u64>
+#[inline(always)]
+fn dated_start(dates: &mut Dates, resolution: Resolution, time: &[u8]) -> Option<u64>
     ensures read { result ≡ dated_start resolution time.now }
     ensures most { IfSome result (λ start. start < midnight (last_day + 1)) }
 {
     if time.len() != TIME {
         return None;
     }
-    let day = Day::read(&time[..8])?;
+    let Some(date) = time.first_chunk::<8>() else {
+        return None;
+    };
+    let day = dates.read(date)?;
     let hour = hour_in(&time[8..])?;
     if !has_hour(resolution, hour) {
         return None;

@@ -4,16 +4,19 @@
 #![tactic(auto)]
 
 mod dated;
+mod dates;
 mod fields;
 pub mod laws;
 mod minute;
 mod number;
+mod plain;
 mod row;
 mod values;
 mod worked;
 mod write;
 
-pub use dated::read_dated;
+pub use dated::{read_dated, read_dated_by};
+pub use dates::Dates;
 pub use minute::read_minute;
 pub use row::Row;
 pub use write::{write_dated, write_minute};

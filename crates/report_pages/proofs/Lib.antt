@@ -1,2 +1,3 @@
 pub mod PrintedLemmas
 pub mod LineTexts
+pub mod Places

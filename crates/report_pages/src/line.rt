@@ -1,7 +1,7 @@
 //! The lines of a tape.
-ghost use Rattle.std.specs.Prelude.{◌≡◌, ◌+◌, ◌≤◌, ◌++◌, length, drop, decimal, unsigned_abs, OnOk, IfOk, string_bytes};
+ghost use Rattle.std.specs.Prelude.{◌≡◌, ◌+◌, ◌<◌, ◌≤◌, ◌∷◌, ◌++◌, length, drop, decimal, unsigned_abs, OnOk, IfOk, string_bytes};
 ghost use Rattle.lean_fixed.specs.Calendar.{last_day};
-ghost use Rattle.lean_fixed.specs.Printed.{money_text};
+ghost use Rattle.lean_fixed.specs.Printed.{four_digits, money_text, units_text};
 ghost use Rattle.feed_paths.specs.Paths.{path_of};
 ghost use Rattle.report_pages.specs.Lines.{part, row_line, end_line, data_line};
 
@@ -13,6 +13,9 @@ use lean_fixed::ranges::LAST_DAY;
 use lean_fixed::{Moment, NoMemory, Price, Symbol, write_price};
 use lean_items::{Bad, FeedKey, FeedKind};
 use std::alloc::Global;
+
+// The units of 1/10000 dollar in a dollar.
+const UNITS: u64 = 10_000;
 
 /// The most bytes of the line of a row: what it begins with, a symbol, four prices, a volume, a space before each, and an LF.
 const LONGEST: usize = 16 + 13 + 4 * 22 + 21 + 1;
@@ -44,19 +47,34 @@ pub fn append_row(
 }
 
 // Writes a space and a volume before a place of a line, and says where they start.
+#[inline(always)]
 fn write_volume(volume: u64, line: &mut [u8], end: usize) -> usize
     requires { (21 ≤ end) × (end ≤ length line.old) }
     ensures start { (result ≤ end) × (end ≤ result + 21) }
     ensures size { length line.new ≡ length line.old }
     ensures written { drop result line.new ≡ part (decimal volume) ++ drop end line.old }
 {
-    let digits = write_digits(volume, line, end);
-    line[digits - 1] = b' ';
-    digits - 1
+    write_number(volume, line, end)
 }
 
-// The same of a price.
+// The same of a price. One from 0 on, as each row has, goes without a look at a sign.
+#[inline(always)]
 fn write_price_part(price: Price, line: &mut [u8], end: usize) -> usize
+    requires { (22 ≤ end) × (end ≤ length line.old) }
+    ensures start { (result ≤ end) × (end ≤ result + 22) }
+    ensures size { length line.new ≡ length line.old }
+    ensures written { drop result line.new ≡ part (money_text price.0) ++ drop end line.old }
+{
+    if price.0.is_negative() {
+        return write_signed_price(price, line, end);
+    }
+    write_units(price.0.unsigned_abs(), line, end)
+}
+
+// The same of a price of either sign.
+#[cold]
+#[inline(never)]
+fn write_signed_price(price: Price, line: &mut [u8], end: usize) -> usize
     requires { (22 ≤ end) × (end ≤ length line.old) }
     ensures start { (result ≤ end) × (end ≤ result + 22) }
     ensures size { length line.new ≡ length line.old }
@@ -66,6 +84,45 @@ fn write_price_part(price: Price, line: &mut [u8], end: usize) -> usize
     let text = write_price(price, line, end);
     line[text - 1] = b' ';
     text - 1
+}
+
+// The same of a number of 1/10000 dollar.
+#[inline(always)]
+fn write_units(units: u64, line: &mut [u8], end: usize) -> usize
+    requires { (22 ≤ end) × (end ≤ length line.old) }
+    ensures start { (result ≤ end) × (end ≤ result + 22) }
+    ensures size { length line.new ≡ length line.old }
+    ensures written { drop result line.new ≡ part (units_text units) ++ drop end line.old }
+{
+    let point = write_places(units, line, end);
+    write_number(units / UNITS, line, point)
+}
+
+// Writes a point and the last four digits of a number before a place of a line, and says where the point stands. With a 1
+// before the four digits their zeros are written too; the point takes its place.
+#[inline(always)]
+fn write_places(units: u64, line: &mut [u8], end: usize) -> usize
+    requires { (5 ≤ end) × (end ≤ length line.old) }
+    ensures start { result + 5 ≡ end }
+    ensures size { length line.new ≡ length line.old }
+    ensures written { drop result line.new ≡ 46 ∷ (four_digits units ++ drop end line.old) }
+{
+    let point = write_digits(UNITS + units % UNITS, line, end);
+    line[point] = b'.';
+    point
+}
+
+// Writes a space and a number before a place of a line, and says where they start.
+#[inline(always)]
+fn write_number(number: u64, line: &mut [u8], end: usize) -> usize
+    requires { (length (decimal number) < end) × (end ≤ length line.old) }
+    ensures start { result + 1 + length (decimal number) ≡ end }
+    ensures size { length line.new ≡ length line.old }
+    ensures written { drop result line.new ≡ part (decimal number) ++ drop end line.old }
+{
+    let digits = write_digits(number, line, end);
+    line[digits - 1] = b' ';
+    digits - 1
 }
 
 // The same of a symbol.

@@ -11,7 +11,7 @@ returns-then-time-ne-TIME-clause-read c = dated-not_long c.args.resolution c.arg
 pub returns-in_err-day-clause-read : goal.returns-in_err-day-clause-read
 returns-in_err-day-clause-read c =
     let time = c.args.time.now in
-    c.from_residual.ensures ∙ dated-no_day c.args.resolution (day_of_digits (take 8 time)) (hour_in (drop 8 time)) c.in_err-day.ensures.value
+    c.from_residual.ensures ∙ dated-no_day c.args.resolution (day_of_digits (take 8 time)) (hour_in (drop 8 time)) (rw c.in-Some.ensures.cases.same at c.in_err-day.ensures.value)
 
 pub returns-in_err-hour-clause-read : goal.returns-in_err-hour-clause-read
 returns-in_err-hour-clause-read c =
@@ -27,4 +27,4 @@ pub returns-clause-read : goal.returns-clause-read
 returns-clause-read c =
     let time = c.args.time.now in
     ap (λ m. Some (m + c.in_ok-hour.hour * 60)) c.first_minute.ensures.value
-    ∙ dated-both c.args.resolution (day_of_digits (take 8 time)) (hour_in (drop 8 time)) c.in_ok-day.day c.in_ok-hour.hour c.in_ok-day.ensures.value (c.in_ok-hour.ensures.read ∙ ap hour_in (take_rest time 8)) (sym c.if-not-has_hour.ensures)
+    ∙ dated-both c.args.resolution (day_of_digits (take 8 time)) (hour_in (drop 8 time)) c.in_ok-day.day c.in_ok-hour.hour (rw c.in-Some.ensures.cases.same at c.in_ok-day.ensures.value) (c.in_ok-hour.ensures.read ∙ ap hour_in (take_rest time 8)) (sym c.if-not-has_hour.ensures)

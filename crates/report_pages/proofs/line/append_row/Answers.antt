@@ -1,5 +1,5 @@
 -- The parts that were written one before another are the line.
-use Rattle.std.proofs.Common.{◌≡◌, ◌++◌, ◌≤◌, ap, ◌∙◌, arith, refl, length}
+use Rattle.std.proofs.Common.{◌++◌, ◌≤◌, ap, ◌∙◌, arith, refl, length}
 use Rattle.std.proofs.lemmas.Slice.{between_to_end}
 use Rattle.report_pages.proofs.LineTexts.{row_of_parts}
 use Rattle.report_pages.proofs.line.append_row.Goals as goal
