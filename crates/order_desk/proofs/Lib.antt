@@ -1,0 +1,3 @@
+pub mod HandledLemmas
+pub mod OwedLemmas
+pub mod ReplyLemmas
