@@ -179,3 +179,7 @@ whole_by s cs rs (r ∷ rest) is all = absurd (omega (arith, all, more-to-come s
 -- a front in which every command is done is all
 pub whole-is : (s : Book) (cs : List Command) (rs : List Reply) → IsFront s cs rs → dones rs ≡ length cs → replies s cs ≡ rs
 whole-is s cs rs front all = whole_by s cs rs front.0 front.1 all
+
+-- the book's replies serve the commands
+pub served-replies : (s : Book) (cs : List Command) → Served cs (replies s cs)
+served-replies s cs = record { each = dones-replies s cs; closed = closed-replies s cs }

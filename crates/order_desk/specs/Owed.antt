@@ -1,5 +1,6 @@
 -- What a desk whose book handles each command at once has yet to give.
-use Rattle.std.specs.Prelude.{◌≡◌, ℕ, ◌==◌, nat_le, Bool, ◌&&◌, List, [], ◌∷◌, ◌++◌}
+use Rattle.std.specs.Prelude.{◌≡◌, ℕ, ◌+◌, ◌≤◌, ◌==◌, nat_le, Bool, ◌&&◌, List, [], ◌∷◌, ◌++◌}
+use Rattle.std.proofs.Common.{arith}
 use Rattle.lean_orders.specs.declared.desk.Command.{Command}
 use Rattle.lean_orders.specs.declared.desk.Reply.{Reply}
 use Rattle.clock_book.specs.Books.{Book}
@@ -18,6 +19,10 @@ is_whole told (r ∷ rest) = nat_le (told_after told r) most_told && is_whole (t
 pub record IsSome (kept : Kept) : Type 0 where
   pub book : Book
   pub stands : StandsFor kept book
+
+-- what is done is not more than what is done and what is left together
+pub within_counted : (answered submitted left : ℕ) → answered + left ≡ submitted → answered ≤ submitted
+within_counted answered submitted left counted = omega (arith, counted)
 
 -- all commands are handled, and these replies to them are left
 pub record Owes (kept : Kept) (left : List Reply) (submitted answered : ℕ) (s : Book) (cs : List Command) (rs : List Reply) : Type 0 where

@@ -88,6 +88,9 @@ pub trait Desk {
     ghost counts: { (desk : Self) (s : ClockBook) (cs : List Asked) (rs : List Answer)
         → stands desk s cs rs → Counts (submitted desk) (orders desk) (answered desk) s cs rs };
 
+    /// Only commands that were submitted are done.
+    ghost within: { (desk : Self) → answered desk ≤ submitted desk };
+
     /// Of each command at most so many replies are heard before its `Done`.
     ghost bounded: { (desk : Self) → told desk ≤ most_told };
 }

@@ -1,5 +1,5 @@
 /// What the serving side of a desk passes before each command, so that a test can hold it there.
-pub trait Gate: Send {
+pub trait Gate: Send + Drop {
     fn pass(&mut self);
 }
 

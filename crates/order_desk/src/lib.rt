@@ -6,6 +6,7 @@
 
 mod desk;
 mod gate;
+pub mod laws;
 mod serial_desk;
 
 pub use desk::Desk;

@@ -86,7 +86,7 @@ impl Desk for SerialDesk {
     ghost use Rattle.std.specs.Prelude.{drop};
     ghost use Rattle.order_book.specs.Kept.{order_count};
     ghost use Rattle.order_desk.specs.Heard.{room_of};
-    ghost use Rattle.order_desk.specs.Owed.{Owes};
+    ghost use Rattle.order_desk.specs.Owed.{Owes, within_counted};
 
     ghost stands = { λ d s cs rs. Owes d.book (drop d.next d.replies.items) d.submitted d.answered s cs rs };
 
@@ -103,6 +103,8 @@ impl Desk for SerialDesk {
     ghost room = { λ d. room_of d.submitted d.answered d.told };
 
     ghost counts = { λ d s cs rs owes. owes.counts };
+
+    ghost within = { λ d. within_counted d.answered d.submitted _ d.counted };
 
     ghost bounded = { λ d. d.bounded };
 

@@ -1,0 +1,7 @@
+//! Tests of what a desk promises: a caller that submits what it gets to any desk, and commands with the replies that are heard of
+//! a desk.
+#![tactic(auto)]
+
+mod serving;
+
+pub use serving::{Outcome, serve};
