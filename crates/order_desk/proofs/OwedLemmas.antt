@@ -1,11 +1,11 @@
 -- What a desk whose book handles each command at once owes, after one more command and after one more reply.
-use Rattle.std.proofs.Common.{◌≡◌, ℕ, ◌+◌, ◌<◌, ◌≤◌, Bool, true, false, cond, if◌then◌else◌, get_or, ◌&&◌, nat_le, List, [], ◌∷◌, ◌++◌, length, drop, refl, ap, sym, ◌∙◌, subst, arith, append_assoc, length-append}
+use Rattle.std.proofs.Common.{◌≡◌, ℕ, ◌+◌, ◌<◌, ◌≤◌, Bool, true, false, cond, if◌then◌else◌, ◌&&◌, nat_le, List, [], ◌∷◌, ◌++◌, length, refl, ap, sym, ◌∙◌, subst, arith, append_assoc, length-append}
 use mathlib.Core.Bool.{Bool-set}
 use mathlib.Core.HLevel.{hedberg}
 use mathlib.Core.Logic.{∥∥₁_elim, ∥∥₁_map}
 use native.Mathlib.Decide.{ℕ_discrete}
 use Rattle.std.proofs.lemmas.Bool.Decides.{nat_tests}
-use Rattle.std.proofs.lemmas.List.{drop-append-le, drop_more, append_cancel_left}
+use Rattle.std.proofs.lemmas.List.{append_cancel_left}
 use Rattle.lean_orders.specs.declared.desk.Reply.{Reply}
 use Rattle.lean_orders.specs.declared.desk.Reply.TheVariants.{Event, Account, Done}
 use Rattle.lean_orders.specs.declared.desk.Command.{Command}
@@ -83,10 +83,6 @@ answer-whole old c before more some same few =
 pub some-handled : (old new : Kept) (c : Command) → ∥ IsSome old ∥₁ → ((s : Book) → StandsFor old s → StandsFor new (handled s c).book) → ∥ IsSome new ∥₁
 some-handled old new c some handles = ∥∥₁_map some (λ x. record { book = (handled x.book c).book; stands = handles x.book x.stands })
 
--- the next of some replies, and those behind it
-pub left-passed : (xs : List Reply) (n : ℕ) (x : Reply) → get_or xs n x ≡ x → n < length xs → drop n xs ≡ x ∷ drop (n + 1) xs
-left-passed xs n x is within = drop_more xs n x within ∙ ap (λ y. y ∷ drop (n + 1) xs) is
-
 -- a `Done` is to come of what is not done
 pub due-passed : (left rest : List Reply) (r : Reply) (told answered submitted : ℕ) → left ≡ r ∷ rest
     → is_whole told left ≡ true → answered + dones left ≡ submitted → answered < submitted
@@ -109,43 +105,20 @@ whole-passed left rest r told is whole =
     let parts = both_true (nat_le (told_after told r) most_told) (is_whole (told_after told r) rest) (ap (is_whole told) (sym is) ∙ whole) in
     (true-le parts.0, parts.1)
 
--- the same of a place among replies
-pub due-at : (xs : List Reply) (n : ℕ) (x : Reply) (told answered submitted : ℕ) → get_or xs n x ≡ x → n < length xs
-    → is_whole told (drop n xs) ≡ true → answered + dones (drop n xs) ≡ submitted → answered < submitted
-due-at xs n x told answered submitted is within whole counted =
-    due-passed (drop n xs) (drop (n + 1) xs) x told answered submitted (left-passed xs n x is within) whole counted
-
 pub record IsSteady (told answered submitted : ℕ) (left : List Reply) : Type 0 where
   pub counted : answered + dones left ≡ submitted
   pub whole : is_whole told left ≡ true
   pub bounded : told ≤ most_told
 
-pub steady-behind : (xs : List Reply) (n : ℕ) (x : Reply) (told answered submitted : ℕ) → get_or xs n x ≡ x → n < length xs
-    → is_whole told (drop n xs) ≡ true → answered + dones (drop n xs) ≡ submitted
-    → IsSteady (told_after told x) (if is_done x then answered + 1 else answered) submitted (drop (n + 1) xs)
-steady-behind xs n x told answered submitted is within whole counted =
-    let left = left-passed xs n x is within in
-    let passed = whole-passed (drop n xs) (drop (n + 1) xs) x told left whole in
-    record {
-      counted = counted-passed (drop n xs) (drop (n + 1) xs) x answered submitted left counted;
-      whole = passed.1;
-      bounded = passed.0;
-    }
-
 -- replies to one more command behind those that are left
-pub left-more : (xs after more : List Reply) (n : ℕ) → n ≤ length xs → after ≡ xs ++ more → drop n after ≡ drop n xs ++ more
-left-more xs after more n place grows = ap (drop n) grows ∙ drop-append-le n xs more place
-
-pub steady-more : (old : Kept) (c : Command) (xs after more : List Reply) (n told answered submitted : ℕ) → ∥ IsSome old ∥₁ → after ≡ xs ++ more
-    → ((s : Book) → StandsFor old s → after ≡ xs ++ (handled s c).replies) → length after ≤ length xs + (most_told + 1) → n ≤ length xs
-    → IsSteady told answered submitted (drop n xs) → IsSteady told answered (submitted + 1) (drop n after)
-steady-more old c xs after more n told answered submitted some grows replies few place steady =
+pub steady-more : (old : Kept) (c : Command) (xs after more : List Reply) (told answered submitted : ℕ) → ∥ IsSome old ∥₁ → after ≡ xs ++ more
+    → ((s : Book) → StandsFor old s → after ≡ xs ++ (handled s c).replies) → length more ≤ most_told + 1
+    → IsSteady told answered submitted xs → IsSteady told answered (submitted + 1) after
+steady-more old c xs after more told answered submitted some grows replies few steady =
     let same = λ (s : Book) (h : StandsFor old s). sym grows ∙ replies s h in
-    let left : drop n after ≡ drop n xs ++ more = left-more xs after more n place grows in
-    let short : length more ≤ most_told + 1 = omega (arith, few, ap length grows, length-append xs more) in
     record {
-      counted = omega (arith, steady.counted, ap dones left, dones-append (drop n xs) more, answer-dones old c xs more some same);
-      whole = rw left (whole-append told (drop n xs) more steady.whole (answer-whole old c xs more some same short));
+      counted = omega (arith, steady.counted, ap dones grows, dones-append xs more, answer-dones old c xs more some same);
+      whole = rw grows (whole-append told xs more steady.whole (answer-whole old c xs more some same few));
       bounded = steady.bounded;
     }
 
@@ -163,20 +136,16 @@ counts-more old new c n answered s cs rs ordered within counts =
     }
 
 -- a command was handled, and its replies are left
-pub owes-more : (old new : Kept) (c : Command) (xs after more : List Reply) (place n answered : ℕ) (s : Book) (cs : List Command) (rs : List Reply)
-    → ((b : Book) → StandsFor old b → StandsFor new (handled b c).book) → after ≡ xs ++ more
-    → ((b : Book) → StandsFor old b → after ≡ xs ++ (handled b c).replies) → order_count new ≡ order_count old + submits c
-    → place ≤ length xs → answered ≤ n
-    → Owes old (drop place xs) n answered s cs rs → Owes new (drop place after) (n + 1) answered s (cs ++ c ∷ []) rs
-owes-more old new c xs after more place n answered s cs rs stands grows replies ordered within below owes =
-    let same : more ≡ (handled (after_all s cs) c).replies = append_cancel_left xs more _ (sym grows ∙ replies (after_all s cs) owes.stands) in
-    record {
-      stands = rw (after-more s cs c) (stands (after_all s cs) owes.stands);
-      split = replies-more s cs c ∙ ap (λ x. x ++ (handled (after_all s cs) c).replies) owes.split
-          ∙ append_assoc rs (drop place xs) (handled (after_all s cs) c).replies ∙ ap (λ x. rs ++ (drop place xs ++ x)) (sym same)
-          ∙ ap (λ x. rs ++ x) (sym (left-more xs after more place within grows));
-      counts = counts-more old new c n answered s cs rs ordered below owes.counts;
-    }
+pub owes-more : (old new : Kept) (c : Command) (xs left : List Reply) (n answered : ℕ) (s : Book) (cs : List Command) (rs : List Reply)
+    → ((b : Book) → StandsFor old b → StandsFor new (handled b c).book)
+    → ((b : Book) → StandsFor old b → left ≡ xs ++ (handled b c).replies) → order_count new ≡ order_count old + submits c
+    → answered ≤ n → Owes old xs n answered s cs rs → Owes new left (n + 1) answered s (cs ++ c ∷ []) rs
+owes-more old new c xs left n answered s cs rs stands replies ordered within owes = record {
+  stands = rw (after-more s cs c) (stands (after_all s cs) owes.stands);
+  split = replies-more s cs c ∙ ap (λ x. x ++ (handled (after_all s cs) c).replies) owes.split
+      ∙ append_assoc rs xs (handled (after_all s cs) c).replies ∙ ap (λ x. rs ++ x) (sym (replies (after_all s cs) owes.stands));
+  counts = counts-more old new c n answered s cs rs ordered within owes.counts;
+}
 
 closed_where_all : (s : Book) (cs : List Command) (rs left : List Reply) → replies s cs ≡ rs ++ left → dones rs ≡ length cs → is_closed rs ≡ true
 closed_where_all s cs rs left split all =

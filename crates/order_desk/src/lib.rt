@@ -8,6 +8,7 @@ mod desk;
 mod gate;
 pub mod laws;
 mod serial_desk;
+mod unheard;
 
 pub use desk::Desk;
 pub use gate::{Gate, NoGate};

@@ -1,9 +1,10 @@
-ghost use Rattle.std.specs.Prelude.{◌≡◌, ◌+◌, ◌^◌, ◌<◌, ◌≤◌, true, if◌then◌else◌, drop, length};
+ghost use Rattle.std.specs.Prelude.{◌≡◌, ◌+◌, ◌^◌, ◌<◌, ◌≤◌, true, if◌then◌else◌};
 ghost use Rattle.order_desk.specs.Served.{is_done, dones};
 ghost use Rattle.order_desk.specs.Heard.{told_after, most_told};
 ghost use Rattle.order_desk.specs.Owed.{is_whole, IsSome};
 
 use crate::Desk;
+use crate::unheard::Unheard;
 use lean_fixed::NoMemory;
 use lean_orders::{Command, Heard, Reply, Ticket};
 use order_book::Book;
@@ -13,26 +14,21 @@ use std::alloc::Global;
 #[derive(Drop)]
 pub struct SerialDesk {
     book: Book,
-    // The replies to commands of which not all were heard, and how many of them were.
-    replies: Vec<Reply>,
-    next: usize,
+    unheard: Unheard,
     submitted: u64,
     answered: u64,
     told: u32,
     starved: bool,
-    ghost place: { next ≤ length replies.items },
     ghost few: { submitted ≤ 2 ^ 60 },
-    ghost counted: { answered + dones (drop next replies.items) ≡ submitted },
-    ghost whole: { is_whole told (drop next replies.items) ≡ true },
+    ghost counted: { answered + dones unheard ≡ submitted },
+    ghost whole: { is_whole told unheard ≡ true },
     ghost bounded: { told ≤ most_told },
     ghost stood: { ∥ IsSome book ∥₁ },
 }
 
 impl SerialDesk {
-    ghost use Rattle.std.specs.Prelude.{◌≡◌, ◌+◌, ◌<◌, false, if◌then◌else◌, [], ◌∷◌, drop, slice_index_or, vec_len};
+    ghost use Rattle.std.specs.Prelude.{◌≡◌, false, []};
     ghost use Rattle.clock_book.specs.Books.{Book as ClockBook};
-    ghost use Rattle.order_desk.specs.Served.{is_done};
-    ghost use Rattle.order_desk.specs.Heard.{told_after};
     ghost use Rattle.order_book.specs.Kept.{order_count};
     ghost use Rattle.order_book.specs.Stands.{StandsFor};
 
@@ -50,45 +46,21 @@ impl SerialDesk {
     {
         SerialDesk {
             book,
-            replies: Vec::new(alloc),
-            next: 0,
+            unheard: Unheard::new(alloc),
             submitted: 0,
             answered: 0,
             told: 0,
             starved: false,
         }
     }
-
-    // Goes on behind a reply, and lets the replies go where it was the last of them.
-    fn pass(&mut self, reply: &Reply)
-        requires here { self.old.next < vec_len self.old.replies }
-        requires next { slice_index_or self.old.replies.items self.old.next reply.now ≡ reply.now }
-        ensures left { drop self.old.next self.old.replies.items
-            ≡ reply.now ∷ drop self.new.next self.new.replies.items }
-        ensures answered { self.new.answered
-            ≡ (if is_done reply.now then self.old.answered + 1 else self.old.answered) }
-        ensures told { self.new.told ≡ told_after self.old.told reply.now }
-        ensures book { self.new.book ≡ self.old.book }
-        ensures submitted { self.new.submitted ≡ self.old.submitted }
-        ensures starved { self.new.starved ≡ self.old.starved }
-    {
-        self.next += 1;
-        self.answered = answered_behind(self.answered, reply);
-        self.told = told_behind(self.told, reply);
-        if self.next == self.replies.len() {
-            self.replies.clear();
-            self.next = 0;
-        }
-    }
 }
 
 impl Desk for SerialDesk {
-    ghost use Rattle.std.specs.Prelude.{drop};
     ghost use Rattle.order_book.specs.Kept.{order_count};
     ghost use Rattle.order_desk.specs.Heard.{room_of};
     ghost use Rattle.order_desk.specs.Owed.{Owes, within_counted};
 
-    ghost stands = { λ d s cs rs. Owes d.book (drop d.next d.replies.items) d.submitted d.answered s cs rs };
+    ghost stands = { λ d s cs rs. Owes d.book d.unheard d.submitted d.answered s cs rs };
 
     ghost starved = { λ d. d.starved };
 
@@ -109,7 +81,7 @@ impl Desk for SerialDesk {
     ghost bounded = { λ d. d.bounded };
 
     fn submit(&mut self, command: Command) -> Result<Ticket, NoMemory> {
-        match self.book.handle(&command, &mut self.replies) {
+        match self.unheard.handle(&mut self.book, &command) {
             Ok(()) => {
                 self.submitted += 1;
                 Ok(Ticket(self.submitted))
@@ -122,15 +94,13 @@ impl Desk for SerialDesk {
     }
 
     fn hear(&mut self) -> Result<Option<Heard>, NoMemory> {
-        match self.replies.get(self.next) {
+        match self.unheard.pop() {
             None => Ok(None),
             Some(reply) => {
-                let heard = Heard {
-                    ticket: Ticket(self.answered + 1),
-                    reply: *reply,
-                };
-                self.pass(&heard.reply);
-                Ok(Some(heard))
+                let ticket = Ticket(self.answered + 1);
+                self.answered = answered_behind(self.answered, &reply);
+                self.told = told_behind(self.told, &reply);
+                Ok(Some(Heard { ticket, reply }))
             }
         }
     }
