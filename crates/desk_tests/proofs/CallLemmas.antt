@@ -21,12 +21,19 @@ orders-push xs c = orders-append xs (c ∷ []) ∙ omega arith
 
 -- a command has room where the orders that it makes have
 pub room-for : (n : ℕ) (c : Command) → n + submits c ≤ most_orders → HasRoom n c
-room-for n (Mark at symbol bar) room = tt
-room-for n (Match at) room = tt
-room-for n (Submit at request) room = omega (arith, room)
-room-for n (Update at id price) room = tt
-room-for n (Cancel at id) room = tt
-room-for n (Account at) room = tt
+room-for n c room = λ one. omega (arith, room, one)
+
+-- one more command makes at most one order
+one_order : (c : Command) → submits c ≤ 1
+one_order (Mark at symbol bar) = omega arith
+one_order (Match at) = omega arith
+one_order (Submit at request) = omega arith
+one_order (Update at id price) = omega arith
+one_order (Cancel at id) = omega arith
+one_order (Account at) = omega arith
+
+pub orders_more : (xs : List Command) (c : Command) → orders_of (xs ++ c ∷ []) ≤ orders_of xs + 1
+orders_more xs c = omega (arith, orders-push xs c, one_order c)
 
 -- the next of some commands, where those before it are submitted
 pub room-next : (all sent rest : List Command) (c : Command) (orders : ℕ) → sent ++ c ∷ rest ≡ all → orders + orders_of all ≤ most_orders

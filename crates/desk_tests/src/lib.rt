@@ -3,5 +3,7 @@
 #![tactic(auto)]
 
 mod serving;
+#[cfg(test)]
+mod tests;
 
 pub use serving::{Outcome, serve};
