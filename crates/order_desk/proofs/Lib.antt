@@ -1,0 +1,4 @@
+pub mod DropLemmas
+pub mod HandledLemmas
+pub mod OwedLemmas
+pub mod ReplyLemmas

@@ -1,0 +1,3 @@
+pub mod Served
+pub mod Heard
+pub mod Owed
