@@ -78,8 +78,10 @@ fn phase<D: Desk>(
     requires fitting { All IsFitting commands.items }
     ensures fed { OnOk result (D.starved desk.new ≡ false) }
     ensures ends { (D.starved desk.new ≡ true) ⊎ (D.answered desk.new ≡ D.submitted desk.new) }
-    ensures submitted { OnOk result (D.submitted desk.new ≡ D.submitted desk.old + vec_len commands) }
-    ensures orders { OnOk result (D.orders desk.new ≡ D.orders desk.old + orders_of commands.items) }
+    ensures submitted { OnOk result
+        (D.submitted desk.new ≡ D.submitted desk.old + vec_len commands) }
+    ensures orders { OnOk result
+        (D.orders desk.new ≡ D.orders desk.old + orders_of commands.items) }
     ensures stands { IfOk result (λ heard. (s : ClockBook) (cs : List Asked) (rs : List Answer)
         → D.stands desk.old s cs rs
         → D.stands desk.new s (cs ++ commands.items) (rs ++ replies_of heard.items)) }
@@ -101,8 +103,10 @@ fn submit_all<D: Desk>(desk: &mut D, commands: Vec<Command>) -> Result<(), NoMem
     requires orders { D.orders desk.old + orders_of commands.items ≤ most_orders }
     requires fitting { All IsFitting commands.items }
     ensures starved { D.starved desk.new ≡ is_err result }
-    ensures submitted { OnOk result (D.submitted desk.new ≡ D.submitted desk.old + vec_len commands) }
-    ensures orders { OnOk result (D.orders desk.new ≡ D.orders desk.old + orders_of commands.items) }
+    ensures submitted { OnOk result
+        (D.submitted desk.new ≡ D.submitted desk.old + vec_len commands) }
+    ensures orders { OnOk result
+        (D.orders desk.new ≡ D.orders desk.old + orders_of commands.items) }
     ensures answered { OnOk result (D.answered desk.new ≡ D.answered desk.old) }
     ensures stands { OnOk result ((s : ClockBook) (cs : List Asked) (rs : List Answer)
         → D.stands desk.old s cs rs → D.stands desk.new s (cs ++ commands.items) rs) }

@@ -10,9 +10,7 @@ ghost use Rattle.desk_tests.specs.Calls.{orders_of};
 use crate::serving::serve;
 use exchange_hours::Hours;
 use lean_fixed::{Moment, Money, Price, Shares, Symbol, laws};
-use lean_orders::{
-    Cause, Command, Heard, Kind, OrderEvent, PriceBar, Reply, Request, What,
-};
+use lean_orders::{Cause, Command, Heard, Kind, OrderEvent, PriceBar, Reply, Request, What};
 use order_book::Book;
 use order_desk::SerialDesk;
 use std::alloc::Global;

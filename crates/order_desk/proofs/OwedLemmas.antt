@@ -16,7 +16,7 @@ use Rattle.order_book.specs.Kept.{Kept, order_count}
 use Rattle.order_book.specs.Stands.{StandsFor}
 use Rattle.order_desk.specs.Served.{is_done, dones, is_closed}
 use Rattle.order_desk.specs.Heard.{told_after, most_told, room_of, Counts}
-use Rattle.order_desk.specs.Owed.{is_whole, IsSome, Owes}
+use Rattle.order_desk.specs.Owed.{is_whole, StandsForSome, Owes}
 use Rattle.order_desk.proofs.HandledLemmas.{handled-answers}
 use Rattle.order_desk.proofs.ReplyLemmas.{after-none, replies-none, after-more, replies-more, dones-append, dones-cons, handled-dones, closed-replies, whole-is}
 
@@ -66,13 +66,13 @@ handled-whole s c few =
     ap (is_whole 0) a.is ∙ whole-answer 0 a.events a.none_done (omega (arith, few, ap length a.is, count))
 
 -- what a book in memory replied to a command, whatever book it stands for
-pub answer-dones : (old : Kept) (c : Command) (before more : List Reply) → ∥ IsSome old ∥₁
+pub answer-dones : (old : Kept) (c : Command) (before more : List Reply) → ∥ StandsForSome old ∥₁
     → ((s : Book) → StandsFor old s → before ++ more ≡ before ++ (handled s c).replies) → dones more ≡ 1
 answer-dones old c before more some same =
     ∥∥₁_elim some (hedberg ℕ_discrete (dones more) 1)
     (λ x. ap dones (append_cancel_left before more (handled x.book c).replies (same x.book x.stands)) ∙ handled-dones x.book c)
 
-pub answer-whole : (old : Kept) (c : Command) (before more : List Reply) → ∥ IsSome old ∥₁
+pub answer-whole : (old : Kept) (c : Command) (before more : List Reply) → ∥ StandsForSome old ∥₁
     → ((s : Book) → StandsFor old s → before ++ more ≡ before ++ (handled s c).replies) → length more ≤ most_told + 1 → is_whole 0 more ≡ true
 answer-whole old c before more some same few =
     ∥∥₁_elim some (Bool-set (is_whole 0 more) true)
@@ -80,7 +80,7 @@ answer-whole old c before more some same few =
     ap (is_whole 0) is ∙ handled-whole x.book c (omega (arith, few, ap length is))))
 
 -- a book in memory that handled a command stands for some book
-pub some-handled : (old new : Kept) (c : Command) → ∥ IsSome old ∥₁ → ((s : Book) → StandsFor old s → StandsFor new (handled s c).book) → ∥ IsSome new ∥₁
+pub some-handled : (old new : Kept) (c : Command) → ∥ StandsForSome old ∥₁ → ((s : Book) → StandsFor old s → StandsFor new (handled s c).book) → ∥ StandsForSome new ∥₁
 some-handled old new c some handles = ∥∥₁_map some (λ x. record { book = (handled x.book c).book; stands = handles x.book x.stands })
 
 -- a `Done` is to come of what is not done
@@ -111,7 +111,7 @@ pub record IsSteady (told answered submitted : ℕ) (left : List Reply) : Type 0
   pub bounded : told ≤ most_told
 
 -- replies to one more command behind those that are left
-pub steady-more : (old : Kept) (c : Command) (xs after more : List Reply) (told answered submitted : ℕ) → ∥ IsSome old ∥₁ → after ≡ xs ++ more
+pub steady-more : (old : Kept) (c : Command) (xs after more : List Reply) (told answered submitted : ℕ) → ∥ StandsForSome old ∥₁ → after ≡ xs ++ more
     → ((s : Book) → StandsFor old s → after ≡ xs ++ (handled s c).replies) → length more ≤ most_told + 1
     → IsSteady told answered submitted xs → IsSteady told answered (submitted + 1) after
 steady-more old c xs after more told answered submitted some grows replies few steady =

@@ -1,3 +1,4 @@
 pub mod Served
 pub mod Heard
 pub mod Owed
+pub mod Worked

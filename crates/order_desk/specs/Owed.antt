@@ -16,7 +16,7 @@ is_whole told [] = told == 0
 is_whole told (r ∷ rest) = nat_le (told_after told r) most_told && is_whole (told_after told r) rest
 
 -- a book in memory stands for some book
-pub record IsSome (kept : Kept) : Type 0 where
+pub record StandsForSome (kept : Kept) : Type 0 where
   pub book : Book
   pub stands : StandsFor kept book
 
@@ -25,7 +25,7 @@ pub within_counted : (answered submitted left : ℕ) → answered + left ≡ sub
 within_counted answered submitted left counted = omega (arith, counted)
 
 -- all commands are handled, and these replies to them are left
-pub record Owes (kept : Kept) (left : List Reply) (submitted answered : ℕ) (s : Book) (cs : List Command) (rs : List Reply) : Type 0 where
+pub record Owes (kept : Kept) (left : List Reply) (n answered : ℕ) (s : Book) (cs : List Command) (rs : List Reply) : Type 0 where
   pub stands : StandsFor kept (after s cs)
   pub split : replies s cs ≡ rs ++ left
-  pub counts : Counts submitted (order_count kept) answered s cs rs
+  pub counts : Counts n (order_count kept) answered s cs rs

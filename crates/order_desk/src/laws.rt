@@ -27,7 +27,8 @@ pub fn front_that_serves()
 /// What is known of all replies at the end is known of each part that was served on the way.
 pub fn served_parts()
     // A front of the replies is right.
-    ensures end { (s : Book) (cs : List Command) (rs : List Reply) → IsFront s cs rs → IsRight s cs rs }
+    ensures end { (s : Book) (cs : List Command) (rs : List Reply) → IsFront s cs rs
+        → IsRight s cs rs }
 
     // What is right with more commands and replies was right before them.
     ensures before { (s : Book) (cs ds : List Command) (rs more : List Reply)

@@ -9,6 +9,7 @@ mod gate;
 pub mod laws;
 mod serial_desk;
 mod unheard;
+mod worked;
 
 pub use desk::Desk;
 pub use gate::{Gate, NoGate};

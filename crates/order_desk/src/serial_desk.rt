@@ -1,7 +1,7 @@
 ghost use Rattle.std.specs.Prelude.{◌≡◌, ◌+◌, ◌^◌, ◌<◌, ◌≤◌, true, if◌then◌else◌};
 ghost use Rattle.order_desk.specs.Served.{is_done, dones};
 ghost use Rattle.order_desk.specs.Heard.{told_after, most_told};
-ghost use Rattle.order_desk.specs.Owed.{is_whole, IsSome};
+ghost use Rattle.order_desk.specs.Owed.{is_whole, StandsForSome};
 
 use crate::Desk;
 use crate::unheard::Unheard;
@@ -23,7 +23,7 @@ pub struct SerialDesk {
     ghost counted: { answered + dones unheard ≡ submitted },
     ghost whole: { is_whole told unheard ≡ true },
     ghost bounded: { told ≤ most_told },
-    ghost stood: { ∥ IsSome book ∥₁ },
+    ghost stood: { ∥ StandsForSome book ∥₁ },
 }
 
 impl SerialDesk {
