@@ -137,7 +137,6 @@ fn command(text: &str) -> Result<Command, Fail>
 }
 
 // The commands of some lines, of which there are not too many.
-#[tactic(auto, using(crate::proofs::CallLemmas::orders_more))]
 fn commands(alloc: Global, lines: &str) -> Result<Vec<Command>, Fail>
     ensures fitting { IfOk result (λ commands. All IsFitting commands.items) }
     ensures few { IfOk result (λ commands. vec_len commands ≤ 1000) }
