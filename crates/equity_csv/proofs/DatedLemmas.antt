@@ -8,7 +8,7 @@ use Rattle.lean_fixed.specs.Calendar.{day_of_digits, is_civil, spelled, day_numb
 use Rattle.lean_fixed.specs.declared.resolution.Resolution.{Resolution}
 use Rattle.lean_fixed.specs.Printed.{day_text}
 use Rattle.lean_fixed.specs.declared.time.Day.{Day}
-use Rattle.equity_csv.specs.Dates.{Spells}
+use Rattle.equity_csv.specs.Dates.{day_spelled, Spells}
 use Rattle.equity_csv.specs.Rows.{kept_if, hour_in, has_hour, start_of, dated_start}
 use Rattle.equity_csv.proofs.JoinLemmas.{no_comma}
 
@@ -135,4 +135,5 @@ dated-both r day hour d h e f k = rw (day-read day d e) (rw (← f) (rw k))
 
 -- the first day that there is, from its text
 pub first_spelled : (digits : List ℕ) → digits ≡ day_text 0 → day_of_digits (day_text 0) ≡ Some 0 → Spells digits (day_at 0)
+unfolding day_spelled
 first_spelled digits e s = ap (option_map day_at) (ap day_of_digits e ∙ s)

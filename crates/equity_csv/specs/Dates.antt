@@ -4,7 +4,7 @@ use Rattle.lean_fixed.specs.declared.time.Day.{Day}
 use Rattle.lean_fixed.specs.Calendar.{day_of_digits}
 
 -- the day that eight digits spell
-abbrev pub day_spelled : List ℕ → Option Day
+unfoldable pub day_spelled : List ℕ → Option Day
 day_spelled digits = option_map (λ n. record { 0 = pos n }) (day_of_digits digits)
 
 abbrev pub Spells : List ℕ → Day → Type 0

@@ -22,6 +22,7 @@ impl Dates {
     ghost use Rattle.lean_fixed.specs.Ranges.{IsDay};
 
     /// With the first day that there is.
+    #[tactic(auto, unfolding(crate::specs::Dates::day_spelled))]
     pub fn new() -> Dates {
         day_reads_back();
         let day = Day(0);
@@ -32,6 +33,7 @@ impl Dates {
     }
 
     /// The day that `yyyyMMdd` spells, as `Day::read` says it.
+    #[tactic(auto, unfolding(crate::specs::Dates::day_spelled))]
     #[inline(always)]
     pub fn read(&mut self, digits: &[u8; 8]) -> Option<Day>
         ensures value { result ≡ option_map (λ n. record { 0 = pos n }) (day_of_digits digits.now) }
@@ -44,6 +46,7 @@ impl Dates {
     }
 
     // The day of another date, which is kept.
+    #[tactic(auto, unfolding(crate::specs::Dates::day_spelled))]
     #[inline(never)]
     fn read_other(&mut self, digits: &[u8; 8]) -> Option<Day>
         ensures value { result ≡ option_map (λ n. record { 0 = pos n }) (day_of_digits digits.now) }

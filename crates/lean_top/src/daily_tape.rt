@@ -15,7 +15,7 @@ ghost use Rattle.lean_top.specs.Steps.{IsAhead, AllAhead, AllPast, Stops, IsNext
 use crate::daily_row::DailyRow;
 use crate::head::Head;
 use crate::source::Source;
-use equity_csv::Row;
+use equity_csv::{Dates, Row};
 use lean_fixed::Day;
 use lean_fixed::laws::day_reads_back;
 use lean_fixed::ranges::{LAST_DAY, MINUTES_PER_DAY};
@@ -92,6 +92,7 @@ fn print_row<H: Hand, S: Sink>(
     date: &[u8],
     row: DailyRow,
     source: &mut Source<H>,
+    dates: &mut Dates,
     page: &mut Vec<u8>,
     out: &mut S,
 ) -> Result<(), Stop>
@@ -113,7 +114,7 @@ fn print_row<H: Hand, S: Sink>(
 {
     day_reads_back();
     append_row(date, &source.symbol, &trades_of(&row.row), page)?;
-    source.advance(row);
+    source.advance(dates, row);
     turn_page(page, out)
 }
 
@@ -122,6 +123,7 @@ fn print_source<H: Hand, S: Sink>(
     step: u32,
     date: &[u8],
     source: &mut Source<H>,
+    dates: &mut Dates,
     page: &mut Vec<u8>,
     out: &mut S,
 ) -> Result<u64, Stop>
@@ -149,7 +151,7 @@ fn print_source<H: Hand, S: Sink>(
             if step_of_row(&row) != step {
                 return Ok(0);
             }
-            match print_row(date, row, source, page, out) {
+            match print_row(date, row, source, dates, page, out) {
                 Ok(()) => Ok(1),
                 Err(stop) => Err(stop),
             }
@@ -164,6 +166,7 @@ fn print_source<H: Hand, S: Sink>(
 fn print_step<H: Hand, S: Sink>(
     step: u32,
     sources: &mut Vec<Source<H>>,
+    dates: &mut Dates,
     page: &mut Vec<u8>,
     out: &mut S,
 ) -> Result<u64, Stop>
@@ -193,7 +196,7 @@ fn print_step<H: Hand, S: Sink>(
     let mut rows: u64 = 0;
     for place in 0..sources.len() {
         let source = &mut sources[place];
-        rows += print_source(step, &date, source, page, out)?;
+        rows += print_source(step, &date, source, dates, page, out)?;
     }
     Ok(rows)
 }
@@ -228,12 +231,13 @@ pub fn print_rows<H: Hand, S: Sink>(
     ensures cause { IfErr result (HasCause (S.faults out.old) (S.faults out.new)) }
     ensures grows { S.faults out.old ≤ S.faults out.new }
 {
+    let mut dates = Dates::new();
     let mut done: u32 = 0;
     let mut rows: u64 = 0;
     'steps: loop {
         match next_of(sources) {
             Next::Step(step) => {
-                rows += print_step(step, sources, page, out)?;
+                rows += print_step(step, sources, &mut dates, page, out)?;
                 done = step;
             }
             Next::Stop(place) => return Ok(Ending::Stopped(place)),

@@ -8,7 +8,7 @@ ghost use Rattle.lean_top.specs.Head.{plain, plain_result, said_behind, IsSaid, 
 ghost use Rattle.clock_feeds.specs.Entries.{checked};
 
 use crate::daily_row::DailyRow;
-use equity_csv::read_dated;
+use equity_csv::{Dates, read_dated_by};
 use lean_fixed::Resolution;
 use lean_io::Hand;
 use lean_items::{Bad, Reason};
@@ -26,7 +26,7 @@ pub enum Head {
 }
 
 /// Reads what the open file says behind a row of it.
-pub fn read_head<H: Hand>(lines: &mut Lines<H>, before: Option<DailyRow>) -> Head
+pub fn read_head<H: Hand>(dates: &mut Dates, lines: &mut Lines<H>, before: Option<DailyRow>) -> Head
     requires open { H.is_open (hand_of lines.old) ≡ true }
     requires few { number_of lines.old ≤ 10_000_000 }
     ensures told { (f : Files) → H.files (hand_of lines.old) ≡ Some f
@@ -39,7 +39,7 @@ pub fn read_head<H: Hand>(lines: &mut Lines<H>, before: Option<DailyRow>) -> Hea
     ensures grows { H.faults (hand_of lines.old) ≤ H.faults (hand_of lines.new) }
 {
     match lines.next() {
-        Line::Text => read_text(lines.number(), lines.text(), before),
+        Line::Text => read_text(dates, lines.number(), lines.text(), before),
         Line::Long => bad_head(lines.number(), Reason::Long),
         Line::Many => bad_head(lines.number(), Reason::Many),
         Line::End => Head::End,
@@ -48,11 +48,11 @@ pub fn read_head<H: Hand>(lines: &mut Lines<H>, before: Option<DailyRow>) -> Hea
 }
 
 // What the text of a line says behind a row.
-fn read_text(number: u32, text: &[u8], before: Option<DailyRow>) -> Head
+fn read_text(dates: &mut Dates, number: u32, text: &[u8], before: Option<DailyRow>) -> Head
     ensures said { IsSaid number (said_behind (plain before) text.now) result }
     ensures past { StandsPast (step_before before) result }
 {
-    match read_daily_row(text) {
+    match read_daily_row(dates, text) {
         Ok(row) => row_head(number, row, before),
         Err(reason) => bad_head(number, reason),
     }
@@ -84,9 +84,9 @@ fn row_head(number: u32, row: DailyRow, before: Option<DailyRow>) -> Head
     }
 }
 
-fn read_daily_row(text: &[u8]) -> Result<DailyRow, Reason>
+fn read_daily_row(dates: &mut Dates, text: &[u8]) -> Result<DailyRow, Reason>
     ensures { plain_result result ≡ dated_row Resolution.Daily text.now }
 {
-    let row = read_dated(Resolution::Daily, text)?;
+    let row = read_dated_by(dates, Resolution::Daily, text)?;
     Ok(DailyRow { row })
 }

@@ -10,6 +10,7 @@ ghost use Rattle.lean_top.specs.Source.{to_come, IsSound};
 
 use crate::daily_row::DailyRow;
 use crate::head::{Head, read_head};
+use equity_csv::Dates;
 use lean_fixed::Symbol;
 use lean_io::{Failed, Hand};
 use line_source::Lines;
@@ -43,7 +44,7 @@ impl<H: Hand> Source<H> {
     }
 
     /// Goes on behind the row that is the head.
-    pub fn advance(&mut self, row: DailyRow)
+    pub fn advance(&mut self, dates: &mut Dates, row: DailyRow)
         requires head { self.old.head ≡ Head.Row row }
         requires sound { IsSound H.is_open H.faults self.old }
         ensures told { (f : Files) → H.files (hand_of self.old.lines) ≡ Some f
@@ -53,7 +54,7 @@ impl<H: Hand> Source<H> {
         ensures symbol { self.new.symbol ≡ self.old.symbol }
         ensures kept { H.files (hand_of self.new.lines) ≡ H.files (hand_of self.old.lines) }
     {
-        self.head = read_head(&mut self.lines, Some(row));
+        self.head = read_head(dates, &mut self.lines, Some(row));
     }
 
     /// The hand that read the file.
@@ -74,7 +75,7 @@ fn first_head<H: Hand>(lines: &mut Lines<H>, path: &str) -> Head
     ensures kept { H.files (hand_of lines.new) ≡ H.files (hand_of lines.old) }
 {
     match lines.open_file(path) {
-        Ok(true) => read_head(lines, None),
+        Ok(true) => read_head(&mut Dates::new(), lines, None),
         Ok(false) => Head::End,
         Err(Failed) => Head::Faulted,
     }

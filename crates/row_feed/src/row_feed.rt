@@ -63,6 +63,7 @@ impl<H: Hand> RowFeed<H> {
     /// failed, and the count of the hand's faults rose in this call, or stands at its last value. It takes no memory.
     ///
     /// Of a file no line is taken behind its first malformed line, or its first row that ends past the window.
+    #[inline(always)]
     pub fn next(&mut self) -> Item
         requires open { has_ended self.old ≡ false }
         ensures gives { (list : List Item) → Leaves H.files H.rest H.is_open self.old list

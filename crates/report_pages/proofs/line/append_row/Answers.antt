@@ -8,8 +8,8 @@ pub returns : goal.returns
 returns c =
     let line = row_of_parts c.args.front.now c.args.symbol.now c.args.trades.now c.volume_of-volume.result _ _ _ _ _ _ _ _
     c.volume_of-volume.ensures refl c.write_volume-at.ensures.written c.write_price_part-at.ensures.written c.write_price_part-at-2.ensures.written c.write_price_part-at-3.ensures.written
-    c.write_price_part-at-4.ensures.written c.write_symbol-at.ensures.written c.write_text-start.ensures.written in
-    let size : length c.write_text-start.new.line ≤ 139 =
+    c.write_price_part-at-4.ensures.written c.write_symbol-at.ensures.written c.write_front-start.ensures.written in
+    let size : length c.write_front-start.new.line ≤ 139 =
     omega (
       arith,
       c.write_volume-at.ensures.size,
@@ -18,6 +18,6 @@ returns c =
       c.write_price_part-at-3.ensures.size,
       c.write_price_part-at-4.ensures.size,
       c.write_symbol-at.ensures.size,
-      c.write_text-start.ensures.size,
+      c.write_front-start.ensures.size,
     ) in
-    c.in_ok-extend_from_slice.ensures.items ∙ ap (λ text. c.args.page.now.items ++ text) (between_to_end c.write_text-start.new.line c.write_text-start.result 139 size ∙ line)
+    c.in_ok-extend_from_slice.ensures.items ∙ ap (λ text. c.args.page.now.items ++ text) (between_to_end c.write_front-start.new.line c.write_front-start.result 139 size ∙ line)
