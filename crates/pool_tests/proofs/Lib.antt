@@ -1,2 +1,4 @@
 pub mod EachLemmas
+pub mod OpenLemmas
 pub mod StandLemmas
+pub mod TookLemmas

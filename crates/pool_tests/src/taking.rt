@@ -1,4 +1,4 @@
-ghost use Rattle.std.specs.Prelude.{◌≡◌, ℕ, ◌<◌, ◌≤◌, ◌^◌, List, Some, IfOk};
+ghost use Rattle.std.specs.Prelude.{◌≡◌, ℕ, ◌<◌, ◌≤◌, ◌^◌, false, List, Some, IfOk};
 ghost use Rattle.std.specs.List.{Contains};
 ghost use Rattle.lean_fixed.specs.Counts.{Rose};
 ghost use Rattle.lean_fixed.specs.Ranges.{IsMoment};
@@ -9,7 +9,7 @@ ghost use Rattle.lean_items.specs.Given.{is_last};
 ghost use Rattle.lean_items.specs.Taken.{no_feeds, Follows};
 
 use lean_fixed::NoMemory;
-use lean_items::{FeedKey, Item, Pool};
+use lean_items::{Feed, FeedKey, Item, Pool};
 use std::alloc::Global;
 
 /// Takes all items of a feed of a new pool, and finishes the pool. What was taken follows the list of the key, and a failed
@@ -34,6 +34,26 @@ pub fn take_all<P: Pool>(alloc: Global, pool: &mut P, key: FeedKey) -> Result<Ve
         items.push(item)?;
     }
     let _ = pool.finish();
+    Ok(items)
+}
+
+/// Takes all items of a feed. What was taken follows the list that the feed left, and a failed read is among it only where its
+/// count of faults rose.
+pub fn take_feed<G: Feed>(alloc: Global, feed: &mut G) -> Result<Vec<Item>, NoMemory>
+    requires { G.has_ended feed.old ≡ false }
+    ensures follow { IfOk result (λ items. (list : List GivenItem) → G.leaves feed.old list
+        → Follows list items.items) }
+    ensures rose { IfOk result (λ items. Contains items.items Faulted
+        → Rose (G.faults feed.old) (G.faults feed.new)) }
+    ensures grows { G.faults feed.old ≤ G.faults feed.new }
+{
+    let mut items = Vec::new(alloc);
+    let mut open = true;
+    'items: while open {
+        let item = feed.next();
+        open = !is_last(&item);
+        items.push(item)?;
+    }
     Ok(items)
 }
 

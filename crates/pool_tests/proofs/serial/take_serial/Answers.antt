@@ -1,0 +1,17 @@
+-- The list of the key is that of the definition.
+use Rattle.std.proofs.Common.{◌≡◌, ◌∙◌, Some, ap}
+use Rattle.std.proofs.lemmas.Result.{IfOk-weaker}
+use Rattle.std.specs.Prelude.{option_map}
+use Rattle.std.specs.Arc.{arc_value}
+use Rattle.feed_pool.specs.Lists.{list_of}
+use Rattle.pool_tests.proofs.serial.take_serial.Goals as goal
+
+pub returns-clause-follow : goal.returns-clause-follow
+unfolding list_of
+returns-clause-follow g c =
+    let hours = arc_value c.args.hours in
+    let window = c.args.window in
+    IfOk-weaker c.take_all.result _ _
+    (λ items had f told. had (g.F.Folder.faults c.args.folder.now) c.in_ok-pool.ensures.stands (list_of f hours window)
+    (c.in_ok-pool.ensures.lists ∙ ap (option_map (λ m. list_of m hours window)) told))
+    c.take_all.ensures.follow
