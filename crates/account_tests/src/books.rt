@@ -22,8 +22,10 @@ const HOURS: &str = r#"{"entries":{"Equity-usa-[*]":{
 "thursday":[{"start":"09:30:00","end":"16:00:00","state":"market"}],
 "friday":[{"start":"09:30:00","end":"16:00:00","state":"market"}]}}}"#;
 
-// 00:00 of Monday, 2013-10-07.
+// 00:00 of Monday, 2013-10-07, and the minute before it.
 const MONDAY: i64 = 23_018_400;
+
+const BEFORE: i64 = 23_018_399;
 
 // Commands to a book of 10,000,000 units of cash, a fee of 1 unit a share, a slip of 2 and a leverage of 2, each with the minute
 // since Monday 00:00. A mark is by a bar of the minute before, with the first, the greatest, the least and the last price; one
@@ -56,17 +58,24 @@ fn moment(text: &str) -> Result<Moment, Fail>
     Ok(Moment(MONDAY + within(field(text, 0), 1, 20_000)? as i64))
 }
 
+// The minute before a command's.
+fn minute_before(text: &str) -> Result<Moment, Fail>
+    ensures { IfOk result (λ at. IsMoment at.0) }
+{
+    Ok(Moment(BEFORE + within(field(text, 0), 1, 20_000)? as i64))
+}
+
 fn bar(text: &str, at: Moment, real: bool) -> Result<PriceBar, Fail>
     requires { IsMoment at.0 }
     ensures { IfOk result IsPriceBar }
 {
-    let start = within(field(text, 0), 1, 20_000)? as i64 - 1;
+    let start = minute_before(text)?;
     let opening = price(field(text, 3))?;
     let high = price(field(text, 4))?;
     let low = price(field(text, 5))?;
     let closing = price(field(text, 6))?;
     Ok(PriceBar {
-        start: Moment(MONDAY + start),
+        start,
         end: at,
         opening,
         high,
