@@ -4,3 +4,4 @@ pub mod OpenLemmas
 pub mod CourseLemmas
 pub mod StepLemmas
 pub mod FeedLemmas
+pub mod ReadingLemmas

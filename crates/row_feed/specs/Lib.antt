@@ -6,4 +6,5 @@ pub mod Steps
 pub mod ToCome
 pub mod Course
 pub mod Feed
+pub mod Reading
 pub mod Few

@@ -27,6 +27,7 @@ impl<H: Hand> RowFeed<H> {
     ghost use Rattle.clock_feeds.specs.Feeds.{rows};
     ghost use Rattle.row_feed.specs.Steps.{StepGives, StepIsOfKind, StepWithin, StepIsShorter, OnStepFaulted, at_after, step_fits};
     ghost use Rattle.row_feed.specs.Feed.{hand_of, key_of, window_of, hours_of, has_ended, at_of, room_of, is_open, Leaves, Keeps, IsOfKind};
+    ghost use Rattle.row_feed.specs.Reading.{StepReads, Reads};
 
     /// The feed of a key over a window and the hours of the exchange. It takes all the memory that it needs. `Refused`: there
     /// is no memory for it.
@@ -78,6 +79,7 @@ impl<H: Hand> RowFeed<H> {
         ensures grows { H.faults (hand_of self.old) ≤ H.faults (hand_of self.new) }
         ensures files { H.files (hand_of self.new) ≡ H.files (hand_of self.old) }
         ensures kept { Keeps self.old self.new }
+        ensures reads { Reads H.files H.rest H.is_open self.old self.new result }
     {
         'steps: loop {
             match self.step() {
@@ -103,6 +105,7 @@ impl<H: Hand> RowFeed<H> {
         ensures grows { H.faults (hand_of self.old) ≤ H.faults (hand_of self.new) }
         ensures files { H.files (hand_of self.new) ≡ H.files (hand_of self.old) }
         ensures kept { Keeps self.old self.new }
+        ensures reads { StepReads H.files H.rest H.is_open self.old self.new result }
     {
         if self.reader.is_open() {
             self.read_line()
@@ -125,6 +128,7 @@ impl<H: Hand> RowFeed<H> {
         ensures grows { H.faults (hand_of self.old) ≤ H.faults (hand_of self.new) }
         ensures files { H.files (hand_of self.new) ≡ H.files (hand_of self.old) }
         ensures kept { Keeps self.old self.new }
+        ensures reads { StepReads H.files H.rest H.is_open self.old self.new result }
     {
         match self.reader.next() {
             Line::Text => self
@@ -151,6 +155,7 @@ impl<H: Hand> RowFeed<H> {
         ensures grows { H.faults (hand_of self.old) ≤ H.faults (hand_of self.new) }
         ensures files { H.files (hand_of self.new) ≡ H.files (hand_of self.old) }
         ensures kept { Keeps self.old self.new }
+        ensures reads { StepReads H.files H.rest H.is_open self.old self.new result }
     {
         match self.course.next_file() {
             Some(file) => {
