@@ -1,6 +1,6 @@
 ghost use Rattle.std.specs.Prelude.{◌<◌, IfOk};
 ghost use Rattle.lean_fixed.specs.Ranges.{IsMoment};
-ghost use Rattle.clock_book.specs.Fitting.{IsFitting, IsPriceBar, most_orders};
+ghost use Rattle.clock_book.specs.Fitting.{IsFitting, IsPriceBar};
 
 use crate::cases::{answered, number, price, symbol, within};
 use exchange_hours::Hours;

@@ -1,5 +1,5 @@
 -- The candidates of some closes: they are in order, the first is the extreme, and they follow one close more or less.
-use Rattle.std.proofs.Common.{ℕ, ◌+◌, ◌-◌, ◌<◌, ◌≤◌, ℤ, ◌≤ℤ◌, Bool, true, false, cond, ◌&&◌, ◌≡◌, List, [], ◌∷◌, ◌++◌, length, take, Option, Some, None, refl, sym, ap, ◌∙◌, subst, inl, inr, arith, append-nil, suc, drop, get_or, drop-cons}
+use Rattle.std.proofs.Common.{ℕ, ◌+◌, ◌-◌, ◌<◌, ◌≤◌, ℤ, Bool, true, false, cond, ◌&&◌, ◌≡◌, List, [], ◌∷◌, ◌++◌, length, take, Option, Some, None, refl, sym, ap, ◌∙◌, subst, inl, inr, arith, append-nil, suc, drop, get_or, drop-cons}
 use Rattle.std.specs.Int.RustNames.{int_le}
 use Rattle.std.specs.List.{filter, list_all}
 use Rattle.std.specs.Ordering.{int_eq}
@@ -18,12 +18,6 @@ use Rattle.bar_windows.specs.declared.spec.Func.TheVariants.{Sma, Highest, Lowes
 use Rattle.bar_windows.specs.Kept.{reaches, candidates, without, is_ranked, MovesOn}
 
 -- ---- `reaches` is an order in which any two closes stand
-
-le_true : (a b : ℤ) → int_le a b ≡ true → a ≤ℤ b
-le_true a b t = grind (arith, ints)
-
-true_le : (a b : ℤ) → a ≤ℤ b → int_le a b ≡ true
-true_le a b le = grind (arith, ints)
 
 le_refl : (a : ℤ) → int_le a a ≡ true
 le_refl a = grind (arith, ints)
@@ -59,13 +53,6 @@ reaches_back Lowest a b f = le_total a.0 b.0 f
 reaches_back Change a b f = le_total b.0 a.0 f
 
 -- ---- tests of all elements
-
--- a test that follows from another
-all_weaker : (p q : Price → Bool) → ((x : Price) → p x ≡ true → q x ≡ true) → (xs : List Price) → list_all p xs ≡ true → list_all q xs ≡ true
-all_weaker p q weaker [] all = refl
-all_weaker p q weaker (x ∷ xs) all =
-    let parts = and_parts (p x) (list_all p xs) all in
-    and_from (q x) (list_all q xs) (weaker x parts.0) (all_weaker p q weaker xs parts.1)
 
 filter_all : (p : Price → Bool) (xs : List Price) → list_all p xs ≡ true → filter p xs ≡ xs
 filter_all p [] all = refl

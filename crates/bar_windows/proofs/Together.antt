@@ -1,7 +1,6 @@
 -- The windows of a security together: they keep what they must, and their values are those over all closes.
-use Rattle.std.proofs.Common.{ℕ, ◌-◌, ◌<◌, ◌≤◌, ◌≡◌, List, [], ◌∷◌, ◌++◌, length, map, get_or, All, Option, Some, IfSome, option_map, suc, ℤ, refl, sym, ap, ◌∙◌, subst, arith}
+use Rattle.std.proofs.Common.{ℕ, ◌-◌, ◌<◌, ◌≤◌, ◌≡◌, List, [], ◌∷◌, ◌++◌, length, map, get_or, All, Option, Some, IfSome, option_map, suc, ℤ, refl, sym, ap, ◌∙◌, subst}
 use Rattle.std.specs.List.{slice_get}
-use Rattle.std.proofs.lemmas.List.{drop_all}
 use Rattle.std.proofs.lemmas.List.Elements.{All-nil, All-cons, All-head, All-tail, All-map, All-push, All-drop}
 use Rattle.std.proofs.lemmas.Option.{slice_get-get_or, slice_get-map}
 use Rattle.circular_buffer.specs.Buffer.{Buffer, buffer, keep_last}
@@ -49,9 +48,6 @@ push_heard ring after windows next close are price is specs heard =
       reach = reach;
       heard = λ k d within. heard_last (get_or next k d) ring.capacity (ring.items ++ close ∷ []) (reach k d within) (heard k d within);
     })
-
-pub stands_new : (windows : Recent) → windows.closes ≡ [] → StandsFor windows []
-stands_new windows none = record { recent = none ∙ sym (drop_all (0 - windows.most) [] (omega arith)) }
 
 pub stands_push : (old new : Recent) (closes : List Price) (close : Price) → StandsFor old closes → new.most ≡ old.most
     → new.closes ≡ keep_last old.most (old.closes ++ close ∷ []) → StandsFor new (closes ++ close ∷ [])

@@ -1,6 +1,5 @@
-ghost use Rattle.std.specs.Prelude.{◌≡◌, ◌-◌, ◌<◌, ◌≤◌, ◌^◌, ℤ, pos, neg_ℤ, ◌+ℤ◌, ◌-ℤ◌, ◌≤ℤ◌, List, [], ◌∷◌, ◌++◌, length as length_of, slice_get, None, IfSome, option_map, if◌then◌else◌, nat_le, All, IfOk};
+ghost use Rattle.std.specs.Prelude.{◌≡◌, ◌-◌, ◌<◌, ◌≤◌, ◌^◌, ℤ, pos, neg_ℤ, ◌+ℤ◌, ◌-ℤ◌, ◌≤ℤ◌, [], ◌∷◌, ◌++◌, length as length_of, slice_get, None, IfSome, option_map, if◌then◌else◌, nat_le, All, IfOk};
 ghost use Rattle.std.specs.Option.{option_map_or};
-ghost use Rattle.circular_buffer.specs.Buffer.{buffer};
 ghost use Rattle.lean_fixed.specs.Ranges.{IsPrice};
 ghost use Rattle.bar_windows.specs.Window.{window, last_closes, total, close_before};
 

@@ -1,5 +1,5 @@
-ghost use Rattle.std.specs.Prelude.{◌≤ℤ◌, pos, IfOk};
-ghost use Rattle.lean_fixed.specs.Ranges.{IsDay, IsPrintedMoment};
+ghost use Rattle.std.specs.Prelude.{IfOk};
+ghost use Rattle.lean_fixed.specs.Ranges.{IsDay};
 
 use crate::cases::{check, none};
 use lean_fixed::ranges::{LAST_DAY, LAST_PRINTED_MOMENT};

@@ -1,11 +1,10 @@
 -- Which commands may be given to a book: their numbers are in their ranges, and there are not too many orders. What is asked
 -- for by a request or an update may be any number, since the book itself tests it.
-use Rattle.std.specs.Prelude.{◌≡◌, ℕ, ◌<◌, length}
+use Rattle.std.specs.Prelude.{◌≡◌, ℕ, ◌<◌}
 use Rattle.lean_fixed.specs.Ranges.{IsMoment, IsPrice, IsVolume}
 use Rattle.lean_orders.specs.declared.desk.PriceBar.{PriceBar}
 use Rattle.lean_orders.specs.declared.desk.Command.{Command}
 use Rattle.lean_orders.specs.declared.desk.Command.TheVariants.{Mark, Match, Submit, Update, Cancel, Account}
-use Rattle.clock_book.specs.Books.{Book}
 
 -- the most orders that are submitted to a book
 abbrev pub most_orders : ℕ
@@ -42,7 +41,3 @@ submits (Account at) = 0
 -- a command that adds an order may come where fewer than the most were submitted before it
 abbrev pub HasRoom : ℕ → Command → Type 0
 HasRoom orders command = submits command ≡ 1 → orders < most_orders
-
--- a book may handle a command
-abbrev pub MayHandle : Book → Command → Type 0
-MayHandle book command = IsFitting command × HasRoom (length book.orders) command

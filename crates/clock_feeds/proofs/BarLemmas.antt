@@ -1,14 +1,10 @@
 -- The bar at a moment between the rows that were passed and those that are left.
-use Rattle.std.proofs.Common.{◌≡◌, ℕ, ◌+◌, ◌<◌, ◌≤◌, List, [], ◌∷◌, ◌++◌, Bool, true, false, refl, sym, ap, ◌∙◌, subst, arith}
-use Rattle.std.specs.Prelude.{Option, Some, None, find, filter, cond, ◌==◌, ◌&&◌, not, nat_lt, nat_le, option_map, is_some}
-use Rattle.std.specs.List.{list_all, last_or}
-use Rattle.std.specs.Option.{option_or}
+use Rattle.std.proofs.Common.{◌≡◌, ℕ, ◌+◌, ◌<◌, ◌≤◌, List, [], ◌∷◌, ◌++◌, Bool, true, false, refl, arith}
+use Rattle.std.specs.Prelude.{Some, None, find, filter}
 use Rattle.std.proofs.lemmas.Bool.Decides.{nat_tests}
-use Rattle.std.proofs.lemmas.List.Elements.{filter-append}
 use Rattle.lean_items.specs.declared.bar.Bar.{Bar}
-use Rattle.clock_feeds.specs.Kept.{Kept}
-use Rattle.clock_feeds.specs.Bars.{Filling, end_of, ends_at, ends_before, fills_at, filled, latest, bar_at}
-use Rattle.clock_feeds.specs.Stands.{EndBy, Rises, Stands}
+use Rattle.clock_feeds.specs.Bars.{end_of, ends_at, ends_before}
+use Rattle.clock_feeds.specs.Stands.{EndBy, Rises}
 
 -- no row that ends by a moment ends at a later one
 pub none_by : (at t : ℕ) (rows : List Bar) → EndBy at rows → at < t → find (ends_at t) rows ≡ None

@@ -1,8 +1,8 @@
 -- The malformed line of a feed is one of a file of the feed.
-use Rattle.std.proofs.Common.{◌≡◌, ℕ, zero, suc, ◌+◌, ◌-◌, ◌<◌, ◌≤◌, ◌⊎◌, ℤ, pos, negsuc, ◌≤ℤ◌, List, [], ◌∷◌, ◌++◌, Bool, true, false, refl, sym, subst, arith, map, inl, inr}
-use Rattle.std.specs.Prelude.{Option, Some, None, Result, Ok, Err, is_some, cond, if◌then◌else◌, filter, flat_map}
+use Rattle.std.proofs.Common.{◌≡◌, ℕ, zero, suc, ◌+◌, ◌-◌, ◌<◌, ◌≤◌, ◌⊎◌, ℤ, pos, negsuc, ◌≤ℤ◌, List, [], ◌∷◌, ◌++◌, Bool, true, false, sym, subst, arith, map, inl, inr}
+use Rattle.std.specs.Prelude.{Option, None, Result, Ok, Err, if◌then◌else◌, filter, flat_map}
 use Rattle.std.specs.List.{AllByRecursion as Each, range_with_len}
-use Rattle.std.proofs.lemmas.Bool.{cases_Bool, false≢true}
+use Rattle.std.proofs.lemmas.Bool.{cases_Bool}
 use Rattle.std.proofs.lemmas.Int.{ints}
 use Rattle.lean_fixed.specs.Calendar.{last_day}
 use Rattle.lean_fixed.specs.Ranges.{IsWindow}
@@ -10,18 +10,16 @@ use Rattle.lean_fixed.specs.declared.resolution.Resolution.{Resolution}
 use Rattle.lean_fixed.specs.declared.resolution.Resolution.TheVariants.{Minute, Hour, Daily}
 use Rattle.lean_fixed.specs.declared.time.Window.{Window}
 use Rattle.lean_io.specs.Told.{Files}
-use Rattle.lean_items.specs.declared.bad.Bad.{Bad}
 use Rattle.lean_items.specs.declared.feed_key.FeedKey.{FeedKey}
-use Rattle.lean_items.specs.declared.feed_key.FeedKind.{FeedKind}
-use Rattle.lean_items.specs.declared.feed_key.FeedKind.TheVariants.{Coarse, Equity}
+use Rattle.lean_items.specs.declared.feed_key.FeedKind.TheVariants.{Equity}
 use Rattle.lean_items.specs.declared.reason.Reason.{Reason}
 use Rattle.exchange_hours.specs.Entries.{Entries}
-use Rattle.feed_paths.specs.Files.{count_to, day_of, days, files_of, files as numbers, from_1970, has_session}
+use Rattle.feed_paths.specs.Files.{day_of, days, files_of, files as numbers, has_session}
 use Rattle.feed_paths.specs.Paths.{path_of}
 use Rattle.clock_feeds.specs.Entries.{Entry}
-use Rattle.clock_feeds.specs.Raw.{Raw, Timed, raw_of, file_entries, equity_end, equity_entries, equity_raw, coarse_end, coarse_entries, coarse_raw}
+use Rattle.clock_feeds.specs.Raw.{Raw, Timed, raw_of, file_entries, equity_end, equity_entries, equity_raw}
 use Rattle.clock_feeds.specs.Kept.{Kept, cut_at, cut, is_past}
-use Rattle.clock_feeds.specs.Feeds.{bars_of, coarse_of}
+use Rattle.clock_feeds.specs.Feeds.{bars_of}
 use Rattle.clock_feeds.specs.Lists.{StopsInFile}
 
 -- a file has the number of a day

@@ -11,10 +11,6 @@ module _ {X : Type 0} where
   pub same_some : {x y : X} → Some x ≡ Some y → x ≡ y
   same_some h = cc
 
-  pub each_weaker : (P Q : X → Type 0) → ((x : X) → P x → Q x) → (xs : List X) → Each P xs → Each Q xs
-  each_weaker P Q weaker [] each = tt
-  each_weaker P Q weaker (x ∷ xs) each = (weaker x each.0, each_weaker P Q weaker xs each.1)
-
   -- what is found passes the test
   pub found : (p : X → Bool) (P : X → Type 0) (xs : List X) (x : X) → Each P xs → find p xs ≡ Some x → (p x ≡ true) × P x
   found p P [] x each is = absurd (none_some is)

@@ -1,5 +1,5 @@
 -- Where a list that rises stands at a moment: what lies before it, what ends then, and whether it is blocked.
-use Rattle.std.proofs.Common.{◌≡◌, ℕ, ◌<◌, ◌≤◌, ℤ, pos, ◌<ℤ◌, ◌≤ℤ◌, int_lt, int_le, unsigned_abs, List, [], ◌∷◌, ◌++◌, Bool, true, false, refl, ap, ◌∙◌, arith, true≢false}
+use Rattle.std.proofs.Common.{◌≡◌, ℕ, ◌<◌, ◌≤◌, ℤ, pos, ◌<ℤ◌, ◌≤ℤ◌, int_lt, int_le, List, [], ◌∷◌, ◌++◌, Bool, true, false, refl, ap, ◌∙◌, arith, true≢false}
 use Rattle.std.specs.Prelude.{Option, Some, None, ◌==◌, ◌&&◌, nat_lt, nat_le, option_to_list}
 use Rattle.std.specs.List.{All, list_all, cons_option}
 use Rattle.std.proofs.lemmas.Bool.Decides.{nat_tests}
@@ -28,9 +28,6 @@ up_to z End h = omega (arith, ints)
 
 bar_above : (z : ℤ) (bar : Bar) → fits z (BarItem bar) ≡ true → z <ℤ bar.end.0
 bar_above z bar h = let up = (and_parts (int_lt z bar.end.0) (is_bar_in_range bar) h).0 in grind (arith, ints)
-
-end_above : (z e : ℤ) → pos 0 ≤ℤ z → z <ℤ e → e ≡ pos (unsigned_abs e)
-end_above z e low up = omega (arith, ints, low, up)
 
 -- what stands behind some items rises past a moment that is no earlier
 rises_behind : (z : ℤ) (front items : List Item) → ItemsRise z (front ++ items) → (w : ℤ) × (z ≤ℤ w) × ItemsRise w items

@@ -1,5 +1,5 @@
 //! The definitions, computed on rows whose answers are known. Each value is the contract of a function that does nothing.
-ghost use Rattle.std.specs.Prelude.{◌≡◌, ◌+◌, ◌∷◌, [], pos, codes, map, Some, None};
+ghost use Rattle.std.specs.Prelude.{◌≡◌, ◌∷◌, [], codes, map, Some, None};
 ghost use Rattle.lean_fixed.specs.declared.resolution.Resolution.TheVariants.{Minute, Hour, Daily};
 ghost use Rattle.lean_items.specs.declared.item.Item.TheVariants.{Bar as BarItem, Bad as BadItem, End};
 ghost use Rattle.lean_items.specs.declared.reason.Reason.TheVariants.{Fields, Order};

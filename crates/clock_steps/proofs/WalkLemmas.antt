@@ -1,5 +1,5 @@
 -- Walks over moments that give nothing.
-use Rattle.std.proofs.Common.{◌≡◌, ℕ, zero, suc, ◌+◌, ◌-◌, ◌<◌, ◌≤◌, List, [], ◌∷◌, ◌++◌, refl, ap, sym, ◌∙◌, subst, arith, append-nil}
+use Rattle.std.proofs.Common.{◌≡◌, ℕ, zero, suc, ◌+◌, ◌-◌, ◌<◌, ◌≤◌, List, [], ◌++◌, refl, ◌∙◌, subst, arith}
 use Rattle.std.specs.Prelude.{flat_map}
 use Rattle.std.specs.List.{range_with_len}
 use Rattle.clock_steps.specs.Walks.{walk, IsIdle}
@@ -50,15 +50,3 @@ module _ {A : Type 0} (gives : ℕ → List A) where
   pub walk-none : (after to : ℕ) → IsIdle gives after (to + 1) → walk gives (after + 1) to ≡ []
   unfolding walk
   walk-none after to idle = none-given (to + 1 - (after + 1)) (after + 1) (λ t l h. idle t (omega arith) (omega arith))
-
-module _ {A : Type 0} where
-  same-given : (gives other : ℕ → List A) (n from : ℕ) → ((t : ℕ) → from ≤ t → t < from + n → gives t ≡ other t)
-      → flat_map gives (range_with_len from n) ≡ flat_map other (range_with_len from n)
-  same-given gives other zero from same = refl
-  same-given gives other (suc n) from same =
-      rw (same from (omega arith) (omega arith)) (ap (λ xs. other from ++ xs) (same-given gives other n (from + 1) (λ t low high. same t (omega arith) (omega arith))))
-
-  -- walks that give the same at each moment
-  pub walk-same : (gives other : ℕ → List A) (from to : ℕ) → ((t : ℕ) → from ≤ t → t ≤ to → gives t ≡ other t) → walk gives from to ≡ walk other from to
-  unfolding walk
-  walk-same gives other from to same = same-given gives other (to + 1 - from) from (λ t low high. same t low (omega arith))

@@ -1,5 +1,5 @@
 -- What is given at each of some moments, one moment after another.
-use Rattle.std.specs.Prelude.{◌≡◌, ℕ, ◌+◌, ◌-◌, ◌<◌, ◌≤◌, List, [], flat_map}
+use Rattle.std.specs.Prelude.{◌≡◌, ℕ, ◌+◌, ◌-◌, ◌<◌, List, [], flat_map}
 use Rattle.std.specs.List.{range_with_len}
 
 module _ {A : Type 0} (gives : ℕ → List A) where

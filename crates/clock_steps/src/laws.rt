@@ -1,5 +1,5 @@
 //! What is true of all walks. Each law is the contract of a function that does nothing.
-ghost use Rattle.std.specs.Prelude.{◌≡◌, ℕ, ◌+◌, ◌<◌, ◌≤◌, List, [], None, Some};
+ghost use Rattle.std.specs.Prelude.{◌≡◌, ℕ, ◌+◌, ◌<◌, ◌≤◌, List, None};
 ghost use Rattle.clock_steps.specs.Runs.{Ran, rests, behind, before, run, IsStill, IsFrontOf};
 ghost use Rattle.clock_steps.specs.Walks.{walk, IsIdle};
 

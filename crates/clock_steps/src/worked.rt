@@ -1,5 +1,5 @@
 //! The definitions, computed on small walks.
-ghost use Rattle.std.specs.Prelude.{◌≡◌, ℕ, ◌+◌, ◌==◌, List, [], ◌∷◌, Some, None, if◌then◌else◌};
+ghost use Rattle.std.specs.Prelude.{◌≡◌, [], ◌∷◌, Some, None};
 ghost use Rattle.clock_steps.specs.Runs.{run, run_to};
 ghost use Rattle.clock_steps.specs.Walks.{walk};
 ghost use Rattle.clock_steps.specs.Small.{counts, stops_at_five, evens};

@@ -1,6 +1,6 @@
 //! The fields of a line.
 
-ghost use Rattle.std.specs.Prelude.{◌≡◌, ◌==◌, List, [], ◌∷◌, option_map, IfSome, IfNone};
+ghost use Rattle.std.specs.Prelude.{◌≡◌, ◌==◌, [], ◌∷◌, option_map, IfSome, IfNone};
 ghost use Rattle.std.specs.List.{position};
 ghost use Rattle.lean_fixed.specs.Fields.{fields};
 ghost use Rattle.coarse_csv.specs.Columns.{columns, columns_in, first_field};

@@ -1,5 +1,5 @@
 -- No bucket is complete at a moment at which no bar ends.
-use Rattle.std.proofs.Common.{ℕ, ℤ, Bool, true, false, cond, ◌≡◌, ◌≢◌, List, [], ◌∷◌, All, Some, None, ap, ◌∙◌, refl}
+use Rattle.std.proofs.Common.{ℕ, ℤ, Bool, true, false, cond, ◌≡◌, ◌≢◌, List, [], ◌∷◌, All, Some, ap, ◌∙◌, refl}
 use Rattle.std.specs.List.{filter, filter_map, find}
 use Rattle.std.specs.Option.{option_map_or}
 use Rattle.std.specs.Ordering.{int_eq}

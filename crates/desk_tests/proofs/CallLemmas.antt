@@ -1,5 +1,5 @@
 -- What a caller submitted and heard, after one more.
-use Rattle.std.proofs.Common.{◌≡◌, ℕ, suc, ◌+◌, ◌<◌, ◌≤◌, Bool, true, false, if◌then◌else◌, List, [], ◌∷◌, ◌++◌, length, get_or, cond, not, ◌||◌, ◌⊎◌, inl, inr, map, refl, ap, sym, ◌∙◌, subst, arith, append-nil, append_assoc, length-append}
+use Rattle.std.proofs.Common.{◌≡◌, ℕ, suc, ◌+◌, ◌≤◌, Bool, true, false, if◌then◌else◌, List, [], ◌∷◌, ◌++◌, length, get_or, cond, not, ◌||◌, ◌⊎◌, inl, inr, refl, ap, sym, ◌∙◌, subst, arith, length-append}
 use Rattle.std.specs.List.{All}
 use Rattle.std.proofs.Math.ListN.{get_or-append}
 use Rattle.std.proofs.lemmas.Bool.{false≢true}
@@ -10,7 +10,7 @@ use Rattle.lean_orders.specs.declared.desk.Reply.{Reply}
 use Rattle.clock_book.specs.Fitting.{submits, HasRoom, most_orders}
 use Rattle.order_desk.specs.Served.{is_done, dones}
 use Rattle.order_desk.proofs.ReplyLemmas.{dones-append, dones-cons}
-use Rattle.desk_tests.specs.Calls.{orders_of, reply_of, replies_of, ticketed}
+use Rattle.desk_tests.specs.Calls.{orders_of, replies_of, ticketed}
 
 pub orders-append : (xs ys : List Command) → orders_of (xs ++ ys) ≡ orders_of xs + orders_of ys
 orders-append [] ys = omega arith
@@ -40,9 +40,6 @@ pub room-next : (all sent rest : List Command) (c : Command) (orders : ℕ) → 
     → HasRoom (orders + orders_of sent) c
 room-next all sent rest c orders split room =
     room-for (orders + orders_of sent) c (omega (arith, room, ap orders_of split, orders-append sent (c ∷ rest)))
-
-pub few-next : (all sent rest : List Command) (c : Command) → sent ++ c ∷ rest ≡ all → length sent + 1 ≤ length all
-few-next all sent rest c split = omega (arith, ap length split, length-append sent (c ∷ rest))
 
 pub replies-push : (heard : List Heard) (x : Heard) → replies_of (heard ++ x ∷ []) ≡ replies_of heard ++ x.reply ∷ []
 replies-push [] x = refl

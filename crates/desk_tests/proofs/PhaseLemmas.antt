@@ -1,5 +1,5 @@
 -- What was heard in two phases, once it is known to be what the book replies to the commands of both.
-use Rattle.std.proofs.Common.{◌≡◌, ℕ, List, [], ◌++◌, length, subst, sym, ◌∙◌, append-nil}
+use Rattle.std.proofs.Common.{◌≡◌, ℕ, List, [], ◌++◌, subst, sym, ◌∙◌, append-nil}
 use Rattle.lean_orders.specs.declared.desk.Command.{Command}
 use Rattle.lean_orders.specs.declared.desk.Reply.{Reply}
 use Rattle.clock_book.specs.Books.{Book}

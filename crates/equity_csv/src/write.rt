@@ -1,11 +1,11 @@
 //! The writers of rows.
 
-ghost use Rattle.std.specs.Prelude.{◌≡◌, pos, ◌+◌, ◌*◌, ◌/◌, ◌%◌, ◌≤◌, ◌<◌, List, [], ◌∷◌, ◌++◌, length, unsigned_abs, OnOk, OnErr, IsTrue, vec_len, vec_capacity, decimal};
+ghost use Rattle.std.specs.Prelude.{◌≡◌, pos, ◌+◌, ◌*◌, ◌/◌, ◌%◌, ◌≤◌, ◌<◌, [], ◌∷◌, ◌++◌, length, unsigned_abs, OnOk, OnErr, IsTrue, vec_len, vec_capacity};
 ghost use Rattle.lean_fixed.specs.Printed.{day_text};
 ghost use Rattle.lean_fixed.specs.Ranges.{IsDay};
 ghost use Rattle.lean_fixed.specs.declared.resolution.Resolution.{Resolution};
 ghost use Rattle.equity_csv.specs.Rows.{minute_row, dated_row};
-ghost use Rattle.equity_csv.specs.Written.{IsRow, start_of_row, day_of_row, minute_of_row, values_text, hour_text, minute_line, dated_line, is_text};
+ghost use Rattle.equity_csv.specs.Written.{IsRow, day_of_row, minute_of_row, values_text, hour_text, minute_line, dated_line, is_text};
 
 use crate::minute::MINUTE;
 use crate::row::Row;

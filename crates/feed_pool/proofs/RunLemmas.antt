@@ -1,7 +1,7 @@
 -- What stands in a place of a pool, after an item was taken, and after a hand was given back.
-use Rattle.std.proofs.Common.{◌≡◌, ℕ, ◌+◌, ◌<◌, ◌≤◌, Bool, true, false, List, [], ◌∷◌, ◌++◌, get_or, set, length, Option, Some, None, ◌⊎◌, inl, inr, refl, sym, ap, ◌∙◌, subst, append_assoc, arith}
+use Rattle.std.proofs.Common.{◌≡◌, ℕ, ◌+◌, ◌<◌, ◌≤◌, Bool, true, false, List, [], ◌∷◌, ◌++◌, get_or, set, length, Option, Some, None, inl, inr, refl, sym, ap, ◌∙◌, subst, append_assoc, arith}
 use Rattle.std.specs.Prelude.{◌^◌, ◌-◌, min, not, Ok}
-use Rattle.std.specs.List.{All, Contains}
+use Rattle.std.specs.List.{Contains}
 use Rattle.std.proofs.Math.Nat.{min-le_left, min-le_right, le-min}
 use Rattle.std.proofs.lemmas.Bool.{cases_lt, false≢true}
 use Rattle.std.proofs.lemmas.List.{get_or_past}
@@ -16,8 +16,8 @@ use Rattle.lean_items.specs.Given.{is_last, IsRow, IsNext, GivesItem, OnFaulted}
 use Rattle.lean_items.specs.Taken.{Taken, Feeds, Follows, AllFollow, FaultsRose, added_to, taken_of, more}
 use Rattle.exchange_hours.specs.Entries.{Entries}
 use Rattle.feed_pool.specs.Lists.{list_of, lists_of}
-use Rattle.feed_pool.proofs.EachLemmas.{each-kept, each-added, each-taken, each-set, each-popped}
-use Rattle.feed_pool.specs.Running.{IsRunning, IsSettled, Standing, Stands, Gave, counted, is_running, is_open_at}
+use Rattle.feed_pool.proofs.EachLemmas.{each-added, each-taken, each-set, each-popped}
+use Rattle.feed_pool.specs.Running.{IsRunning, Standing, Stands, Gave, counted, is_running, is_open_at}
 
 -- a count that rose from 0 is at least 1
 at_least_one : (n : ℕ) → Rose 0 n → 1 ≤ n
@@ -155,12 +155,6 @@ module _ {G : Type 0} (leaves : G → List Item → Type 0) (ended : G → Bool)
         since = omega (arith, stands.since, grows);
         each = each-popped (Standing leaves ended faults lists before now) (Standing leaves ended faults lists before later) stand-later feeds x taken
             (λ t standing. stand-back stands.since x t count standing) stands.each;
-      }
-
-      pub stands-later : (feeds : List (Option G)) (taken : Feeds) → Stands leaves ended faults lists before now feeds taken → Stands leaves ended faults lists before later feeds taken
-      stands-later feeds taken stands = record {
-        since = omega (arith, stands.since, grows);
-        each = each-kept (Standing leaves ended faults lists before now) (Standing leaves ended faults lists before later) stand-later feeds taken stands.each;
       }
 
     -- one more item was taken of a feed

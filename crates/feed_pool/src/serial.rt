@@ -1,6 +1,5 @@
 //! The pool on one thread: the folder's hands are read where their items are taken.
-ghost use Rattle.std.specs.Prelude.{◌≡◌, true};
-ghost use Rattle.lean_items.specs.Given.{is_last};
+ghost use Rattle.std.specs.Prelude.{◌≡◌};
 
 use crate::hand_feed::HandFeed;
 use crate::pool_over::PoolOver;
@@ -52,7 +51,7 @@ impl<'a, F: Folder, G: HandFeed<F::H>> PoolOver<'a, F, Slots<G>> {
 }
 
 impl<F: Folder, G: HandFeed<F::H>> Pool for PoolOver<'_, F, Slots<G>> {
-    ghost use Rattle.std.specs.Prelude.{◌≡◌, ◌+◌, ◌<◌, ◌≤◌, ◌==◌, true, false, not, if◌then◌else◌, ℕ, Some, None, IfOk, OnOk, slice_index_or, vec_len};
+    ghost use Rattle.std.specs.Prelude.{◌<◌, Some, None, slice_index_or, vec_len};
     ghost use Rattle.std.specs.Arc.{arc_value};
     ghost use Rattle.feed_pool.specs.Lists.{lists_of};
     ghost use Rattle.feed_pool.specs.Running.{is_open_at, room_at, room-of_few, Stands};

@@ -9,11 +9,7 @@ use Rattle.exchange_hours.specs.Entries.{Entries}
 use Rattle.exchange_hours.specs.Grid.{IsGridEnd, is_grid_end}
 use Rattle.exchange_hours.specs.Next.{IsNext}
 use Rattle.clock_feeds.specs.Bars.{Filling, filled}
-use Rattle.fill_forward.specs.Again.{IsQuiet, IsNextEnd, IsAgain}
-
--- moments side by side have none between them
-pub none_between : (hours : Entries) (resolution : Resolution) (after before : ℤ) → (before -ℤ after) <ℤ pos 2 → IsQuiet hours resolution after before
-none_between hours resolution after before near t low high = absurd (omega (arith, ints, near, low, high))
+use Rattle.fill_forward.specs.Again.{IsNextEnd, IsAgain}
 
 pub next_end_is : (hours : Entries) (resolution : Resolution) (after until before : ℤ) (found : Option Moment)
     → ((t : ℕ) → IsGridEnd hours resolution t → is_grid_end hours resolution t ≡ true)

@@ -1,10 +1,10 @@
 //! The bar that is given again, and when.
-ghost use Rattle.std.specs.Prelude.{◌≡◌, ℕ, ◌<◌, ◌≤◌, ◌≤ℤ◌, ◌<ℤ◌, pos, neg_ℤ, true, unsigned_abs};
+ghost use Rattle.std.specs.Prelude.{◌≡◌, ◌<◌, ◌≤◌, ◌≤ℤ◌, pos, neg_ℤ, unsigned_abs};
 ghost use Rattle.lean_items.specs.declared.feed_key.FeedKind.TheVariants.{Coarse, Equity};
-ghost use Rattle.exchange_hours.specs.Grid.{bar_start, is_grid_end};
+ghost use Rattle.exchange_hours.specs.Grid.{bar_start};
 ghost use Rattle.exchange_hours.specs.Sessions.{moment};
 ghost use Rattle.clock_feeds.specs.Bars.{Filling, filled};
-ghost use Rattle.fill_forward.specs.Again.{grid_of, resolution_of, IsNextEnd};
+ghost use Rattle.fill_forward.specs.Again.{grid_of, IsNextEnd};
 
 use exchange_hours::Hours;
 use exchange_hours::laws::{grid_ends, sessions_lie};

@@ -9,7 +9,7 @@ use lean_items::{Bar, Feed, Item};
 use row_feed::RowFeed;
 
 impl<H: Hand> FilledFeed<H> {
-    ghost use Rattle.std.specs.Prelude.{◌≡◌, ℕ, ◌<◌, ◌≤◌, ℤ, ◌≤ℤ◌, ◌<ℤ◌, neg_ℤ, pos, Bool, true, false, List, Option, Some, None, IfSome};
+    ghost use Rattle.std.specs.Prelude.{◌≡◌, ◌<◌, ◌≤◌, ℤ, ◌≤ℤ◌, ◌<ℤ◌, neg_ℤ, pos, false, List, Option, Some, None, IfSome};
     ghost use Rattle.lean_io.specs.Told.{Files};
     ghost use Rattle.lean_items.specs.declared.item.Item.{Item};
     ghost use Rattle.lean_items.specs.Given.{is_last, OnRow, OnFaulted, GivesItem};

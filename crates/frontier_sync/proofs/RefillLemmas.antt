@@ -41,13 +41,6 @@ on-row (Bad bad) P h row = absurd (true≢false row)
 on-row Faulted P h row = absurd (true≢false row)
 on-row End P h row = absurd (true≢false row)
 
-pub row-on : (item : Item) (P : Type 0) → (IsRow item → P) → OnRow item P
-row-on (Bar bar) P h = h refl
-row-on (Coarse from bar) P h = h refl
-row-on (Bad bad) P h = tt
-row-on Faulted P h = tt
-row-on End P h = tt
-
 -- what fits behind a moment ends no earlier
 pub fits-from : (at : ℤ) (item : Item) → fits at item ≡ true → EndsFrom at (end_of item)
 fits-from at (Bar bar) h =

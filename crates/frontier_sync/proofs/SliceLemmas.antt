@@ -60,10 +60,6 @@ below-one (x ∷ front) a back r =
     later [] all = all
     later (y ∷ front) all = later front (All-tail (λ b. x.feed.0 < b.feed.0) y (front ++ a ∷ back) all)
 
-pub above-one : (front : List Arrival) (a : Arrival) (back : List Arrival) → AreRising (front ++ a ∷ back) → All (Above a.feed.0) back
-above-one [] a back r = r.0
-above-one (x ∷ front) a back r = above-one front a back r.1
-
 pub rising-written : (heads : List Arrival) (i : ℕ) (d next : Arrival) → AreRising heads → i < length heads → next.feed ≡ (get_or heads i d).feed → AreRising (set heads i next)
 rising-written [] i d next r within same = r
 rising-written (x ∷ heads) zero d next r within same =

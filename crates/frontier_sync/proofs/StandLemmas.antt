@@ -7,7 +7,6 @@ use Rattle.std.proofs.lemmas.Bool.{cases_Bool, true≢false, false≢true, and_p
 use Rattle.std.proofs.lemmas.Bool.Decides.{Decides-int_eq}
 use Rattle.std.proofs.lemmas.Int.{ints}
 use Rattle.std.proofs.lemmas.Option.{none-some}
-use Rattle.lean_fixed.specs.Counts.{Rose}
 use Rattle.std.proofs.lemmas.List.Elements.{All-nil, All-cons, All-head, All-tail, All-append, All-weaker, All-filter, All-contains, All-contains_itself, Contains-append_left, Contains-append_right, Contains-push, filter-append, filter_passes}
 use Rattle.lean_items.specs.declared.arrival.Arrival.{Arrival}
 use Rattle.lean_items.specs.declared.feed_key.FeedKey.{FeedKey}
@@ -16,9 +15,8 @@ use Rattle.lean_items.specs.declared.item.Item.{Item}
 use Rattle.lean_items.specs.declared.item.Item.TheVariants.{Bar, Coarse, Bad, Faulted, End}
 use Rattle.lean_items.specs.Fits.{fits, end_or, Rises, is_bar_in_range}
 use Rattle.lean_items.specs.Given.{is_last, end_of}
-use Rattle.lean_items.specs.Taken.{Feeds, Follows, AllFollow, FaultsRose, more}
-use Rattle.lean_fixed.specs.declared.time.Moment.{Moment}
-use Rattle.frontier_sync.specs.Heads.{arrival, stops, EndsFrom, EndsAfter, IsFrontier}
+use Rattle.lean_items.specs.Taken.{Feeds, Follows, AllFollow, more}
+use Rattle.frontier_sync.specs.Heads.{arrival, stops, EndsFrom, EndsAfter}
 use Rattle.frontier_sync.specs.Slices.{ends_at, given_of, slice_of, Refilled, IsSliced, taken_all}
 use Rattle.frontier_sync.specs.Rising.{EndsOnce, PassesNone}
 use Rattle.frontier_sync.specs.Stands.{EndsBefore, AtHead, HeadsStand, IsTaken, IsSound, IsList, AreLists, is_coarse, AreBars, slice_at}
@@ -265,21 +263,6 @@ all-taken at feeds taken (a ∷ heads) (b ∷ after) all ((same, refilled), slic
     All-cons (IsTaken (taken_all feeds taken)) b after
     (more (taken a.feed.0) t, now, head-taken-still at t.items a.item (taken a.feed.0) b.item has refilled)
     (all-taken at feeds taken heads after (All-tail (IsTaken feeds) a heads all) sliced)
-
--- a failed read that is a head was taken
-pub fault-rose : (feeds : Feeds) (before now : ℕ) (a : Arrival) → FaultsRose feeds before now → IsTaken feeds a → a.item ≡ Faulted → Rose before now
-fault-rose feeds before now a rose (t, is, has) fault = rose a.feed.0 t is (subst (λ x. Contains t.items x) fault has)
-
--- before the least end no head ends
-pub frontier-from : (heads : List Arrival) (frontier : Option Moment) (s : ℤ) → IsFrontier heads frontier → ((t : Moment) → frontier ≡ Some t → s ≤ℤ t.0)
-    → All (λ a. EndsFrom s (end_of a.item)) heads
-frontier-from heads None s all least = All-weaker (λ a. end_of a.item ≡ None) (λ a. EndsFrom s (end_of a.item)) (λ a h. subst (λ o. EndsFrom s o) (sym h) tt) heads all
-frontier-from heads (Some t) s all least =
-    All-weaker (λ a. EndsFrom t.0 (end_of a.item)) (λ a. EndsFrom s (end_of a.item)) (λ a h. earlier s t.0 (end_of a.item) (least t refl) h) heads all.1
-  where
-    earlier : (s t : ℤ) (e : Option ℤ) → s ≤ℤ t → EndsFrom t e → EndsFrom s e
-    earlier s t None h from = tt
-    earlier s t (Some e) h from = omega (arith, ints)
 
 -- what was taken before follows the lists too
 pub all-front : (lists : FeedKey → List Item) (feeds : Feeds) (taken : ℕ → List Item) → AllFollow lists (taken_all feeds taken) → AllFollow lists feeds

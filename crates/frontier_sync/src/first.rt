@@ -2,7 +2,7 @@
 ghost use Rattle.std.specs.Prelude.{◌≡◌, ◌<◌, ◌≤◌, ◌==◌, true, false, not, if◌then◌else◌, ℕ, List, [], ◌∷◌, ◌++◌};
 ghost use Rattle.std.specs.List.{All};
 ghost use Rattle.lean_items.specs.declared.item.Item.{Item as GivenItem};
-ghost use Rattle.lean_items.specs.Given.{is_last, OnRow};
+ghost use Rattle.lean_items.specs.Given.{is_last};
 ghost use Rattle.frontier_sync.specs.Heads.{ends_past};
 ghost use Rattle.frontier_sync.specs.Slices.{TakesOfOne};
 

@@ -1,5 +1,5 @@
 //! Which items end at a moment, and which fit behind one that does.
-ghost use Rattle.std.specs.Prelude.{◌≡◌, pos, neg_ℤ};
+ghost use Rattle.std.specs.Prelude.{◌≡◌};
 ghost use Rattle.lean_items.specs.Fits.{fits, is_moment, is_price, is_volume, is_bar_in_range, is_row_in_range};
 ghost use Rattle.frontier_sync.specs.Slices.{ends_at};
 

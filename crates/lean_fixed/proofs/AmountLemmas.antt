@@ -1,5 +1,5 @@
 -- An amount by the parts before and behind its point.
-use Rattle.std.proofs.Common.{◌≡◌, ℕ, zero, suc, ◌+◌, ◌-◌, ◌*◌, ◌^◌, ◌<◌, ◌≤◌, true, false, ◌&&◌, nat_le, List, length, take, drop, get_or, Some, None, arith, refl}
+use Rattle.std.proofs.Common.{◌≡◌, ℕ, zero, suc, ◌+◌, ◌-◌, ◌*◌, ◌^◌, ◌<◌, ◌≤◌, true, false, ◌&&◌, nat_le, List, length, take, drop, get_or, Some, arith, refl}
 use Rattle.std.specs.List.{position, position_or_len}
 use Rattle.std.proofs.lemmas.List.Folds.{list_all_at}
 use Rattle.std.proofs.lemmas.List.Sums.{passes_at_first}
@@ -7,9 +7,6 @@ use Rattle.std.proofs.lemmas.Bool.{and_right}
 use Rattle.std.proofs.lemmas.Bool.Decides.{nat_tests}
 use Rattle.lean_fixed.specs.Digits.{is_digit, are_digits}
 use Rattle.lean_fixed.specs.Amount.{is_point, is_amount}
-
-no_point_past : (bytes : List ℕ) → position is_point bytes ≡ None → length bytes ≤ position_or_len is_point bytes
-no_point_past bytes none = grind (arith, nat_tests)
 
 point_is : (bytes : List ℕ) (at : ℕ) → position is_point bytes ≡ Some at → (position_or_len is_point bytes ≡ at) × (at < length bytes)
 point_is bytes at some = grind (arith, nat_tests)
@@ -22,14 +19,6 @@ places-scaled value (suc (suc zero)) h small = omega arith
 places-scaled value (suc (suc (suc zero))) h small = omega arith
 places-scaled value (suc (suc (suc (suc zero)))) h small = omega arith
 places-scaled value (suc (suc (suc (suc (suc places))))) h small = absurd (omega arith)
-
-pub power-small : (places : ℕ) → places ≤ 4 → 10 ^ places ≤ 10000
-power-small zero h = omega arith
-power-small (suc zero) h = omega arith
-power-small (suc (suc zero)) h = omega arith
-power-small (suc (suc (suc zero))) h = omega arith
-power-small (suc (suc (suc (suc zero)))) h = omega arith
-power-small (suc (suc (suc (suc (suc places))))) h = absurd (omega arith)
 
 -- with a point the whole is not digits alone, and its parts decide
 pub is_amount-point : (bytes : List ℕ) (at : ℕ) → position is_point bytes ≡ Some at → is_amount bytes ≡ (are_digits (take at bytes) && are_digits (drop (at + 1) bytes) && nat_le (length (drop (at + 1) bytes)) 4)

@@ -198,9 +198,6 @@ day_number-date date y m d (year, month, day) low =
     let same : epoch_day date ≡ days_from_civil (pos y) m d = rw (year, e, f) refl in
     same ∙ sym (pos-unsigned_abs (days_from_civil (pos y) m d) (rw same at low))
 
-pub date_parts : (n : ℕ) (date : Date) → n ≤ 84_007 → epoch_day date ≡ pos n → (date.year ≡ pos (civil_of n).year) × (date.month ≡ (civil_of n).month) × (date.day ≡ (civil_of n).day)
-date_parts n date small e = civil_of-date n date (omega arith) e
-
 -- the weekday of a day from the one that counts from Monday
 pub weekday-monday : (n monday : ℕ) (z : ℤ) → z ≡ pos n → monday ≡ weekday_number z → (monday + 1) % 7 ≡ weekday n
 weekday-monday n monday z e m = omega (arith, signed_arith, weekday_number-parts z)

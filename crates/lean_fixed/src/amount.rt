@@ -1,4 +1,4 @@
-ghost use Rattle.std.specs.Prelude.{◌≡◌, ◌+◌, ◌-◌, ◌*◌, ◌^◌, ◌<◌, ◌≤ℤ◌, ◌&&◌, nat_le, pos, length, position, if◌then◌else◌, option_map, IfSome};
+ghost use Rattle.std.specs.Prelude.{◌≡◌, ◌+◌, ◌-◌, ◌*◌, ◌^◌, ◌<◌, ◌&&◌, nat_le, pos, length, position, if◌then◌else◌, option_map, IfSome};
 ghost use Rattle.lean_fixed.specs.Digits.{are_digits, value_of};
 ghost use Rattle.lean_fixed.specs.Amount.{amount, most_amount, is_amount, is_point, units_of};
 ghost use Rattle.lean_fixed.specs.Ranges.{IsWithin};

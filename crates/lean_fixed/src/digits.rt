@@ -1,4 +1,4 @@
-ghost use Rattle.std.specs.Prelude.{◌≡◌, Bool, ◌^◌};
+ghost use Rattle.std.specs.Prelude.{◌≡◌};
 ghost use Rattle.lean_fixed.specs.Digits.{digits, is_digit};
 
 // The greatest number that is read: 10^18.

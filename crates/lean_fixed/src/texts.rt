@@ -1,4 +1,4 @@
-ghost use Rattle.std.specs.Prelude.{◌≡◌, ◌+◌, ◌*◌, ◌/◌, ◌%◌, ◌^◌, ◌<◌, ◌≤◌, ◌≤ℤ◌, List, [], ◌∷◌, ◌++◌, length, drop, decimal, pos, unsigned_abs, OnOk, OnErr, vec_len, vec_capacity};
+ghost use Rattle.std.specs.Prelude.{◌≡◌, ◌+◌, ◌/◌, ◌%◌, ◌^◌, ◌<◌, ◌≤◌, ◌∷◌, ◌++◌, length, drop, decimal, unsigned_abs, OnOk, OnErr, vec_len, vec_capacity};
 ghost use Rattle.std.specs.Fmt.{sign_text};
 ghost use Rattle.lean_fixed.specs.Printed.{two_digits, four_digits, dollars_text, money_text, day_text, moment_text};
 ghost use Rattle.lean_fixed.specs.Ranges.{IsDay, IsPrintedMoment};

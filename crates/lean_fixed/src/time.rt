@@ -1,11 +1,9 @@
-ghost use Rattle.std.specs.Prelude.{◌≡◌, ◌<◌, ◌≤◌, ◌↔◌, ◌+ℤ◌, ◌≤ℤ◌, true, pos, unsigned_abs, IsNone, IsSome, is_some, IfSome, option_map};
-ghost use Rattle.std.specs.List.{list_all};
+ghost use Rattle.std.specs.Prelude.{◌≡◌, ◌<◌, ◌≤◌, ◌↔◌, ◌+ℤ◌, ◌≤ℤ◌, pos, unsigned_abs, IsNone, IsSome, is_some, IfSome, option_map};
 ghost use Rattle.jiff_core.specs.Calendar.{IsBetween};
 ghost use Rattle.jiff_core.specs.Date.{epoch_day, IsYmd};
-ghost use Rattle.lean_fixed.specs.Digits.{is_digit};
 ghost use Rattle.lean_fixed.specs.Printed.{day_text};
-ghost use Rattle.lean_fixed.specs.Calendar.{Civil, is_civil, last_day, day_number, day_of_digits, civil_of, weekday};
-ghost use Rattle.lean_fixed.specs.Moments.{minutes_per_day, midnight, day_of, minute_of_day, first_moment, last_moment};
+ghost use Rattle.lean_fixed.specs.Calendar.{is_civil, last_day, day_of_digits, civil_of, weekday};
+ghost use Rattle.lean_fixed.specs.Moments.{midnight, day_of, minute_of_day, first_moment, last_moment};
 ghost use Rattle.lean_fixed.specs.Ranges.{IsDay, IsDatedMoment};
 
 use crate::digits::read_digits;

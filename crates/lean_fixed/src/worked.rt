@@ -1,5 +1,5 @@
 //! The definitions, computed on values that are known.
-ghost use Rattle.std.specs.Prelude.{◌≡◌, ◌+◌, ◌*◌, ◌/◌, pos, neg_ℤ, codes, true, false, [], ◌∷◌, Some, None};
+ghost use Rattle.std.specs.Prelude.{◌≡◌, ◌+◌, ◌*◌, pos, neg_ℤ, codes, true, false, [], ◌∷◌, Some, None};
 ghost use Rattle.lean_fixed.specs.Amount.{amount};
 ghost use Rattle.lean_fixed.specs.Calendar.{last_day, day_of_digits, weekday};
 ghost use Rattle.lean_fixed.specs.Digits.{digits};

@@ -1,6 +1,6 @@
 -- Which item may come behind another in the list of a feed: its numbers are in their ranges, and the ends of bars rise, while
 -- those of coarse rows do not fall.
-use Rattle.std.specs.Prelude.{◌≡◌, ℕ, ℤ, pos, neg_ℤ, int_lt, int_le, Bool, true, ◌&&◌, List, [], ◌∷◌}
+use Rattle.std.specs.Prelude.{◌≡◌, ℤ, pos, neg_ℤ, int_lt, int_le, Bool, true, ◌&&◌, List, [], ◌∷◌}
 use Rattle.lean_fixed.specs.Ranges.{most_price, most_volume}
 use Rattle.lean_items.specs.declared.bar.Bar.{Bar}
 use Rattle.lean_items.specs.declared.coarse_row.CoarseRow.{CoarseRow}

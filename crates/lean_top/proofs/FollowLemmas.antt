@@ -1,16 +1,15 @@
 -- What is left of a security behind a step of its tape.
-use Rattle.std.proofs.Common.{◌≡◌, ℕ, ◌+◌, ◌<◌, ◌≤◌, List, [], ◌∷◌, ◌++◌, refl, sym, ap, ◌∙◌, subst, arith, length, append_assoc}
-use Rattle.std.specs.Prelude.{Option, Some, None, take, drop, slice_get}
-use Rattle.std.specs.List.{AllByRecursion, AllZip}
+use Rattle.std.proofs.Common.{◌≡◌, ℕ, ◌<◌, List, refl, ◌∙◌, subst, arith}
+use Rattle.std.specs.Prelude.{Option, Some}
 use Rattle.lean_io.specs.Told.{Files}
-use Rattle.line_source.specs.Reader.{hand_of, lines_left}
+use Rattle.line_source.specs.Reader.{hand_of}
 use Rattle.lean_top.specs.declared.daily_row.DailyRow.{DailyRow}
 use Rattle.lean_top.specs.declared.head.Head.{Head}
 use Rattle.lean_top.specs.declared.head.Head.TheVariants.{Row, Bad, Faulted, End}
 use Rattle.lean_top.specs.declared.source.Source.{Source}
-use Rattle.lean_top.specs.DailyFile.{Sheet, no_rows, with_row, sheet_after}
+use Rattle.lean_top.specs.DailyFile.{with_row}
 use Rattle.lean_top.specs.DailyTape.{Security, step_of}
-use Rattle.lean_top.specs.Head.{still_to_come, IfKnown, StandsPast}
+use Rattle.lean_top.specs.Head.{IfKnown, StandsPast}
 use Rattle.lean_top.specs.Source.{Rises, Leaves, Follows, to_come}
 use Rattle.lean_top.proofs.SheetLemmas.{leaves-later, leaves-row}
 
@@ -54,7 +53,3 @@ module _ {H : Type 0} (files : H → Option Files) (rest : H → List ℕ) (f : 
     told = follows.told;
     known = past_head step source source.head refl lt past follows.known;
   }
-
--- a head that stands at a step or later, and not at it, is past it
-pub past_step : (step : ℕ) (row : DailyRow) → step ≤ step_of row.row → (step_of row.row ≡ step → ⊥) → step < step_of row.row
-past_step step row le other = omega arith

@@ -7,8 +7,8 @@ use Rattle.lean_items.specs.declared.reason.Reason.TheVariants.{Order, Long, Man
 use Rattle.line_source.specs.Lines.{FileLine, TextLine, BlankLine, LongLine, ManyLine, past_blank}
 use Rattle.equity_csv.specs.declared.row.Row.{Row as FileRow}
 use Rattle.equity_csv.specs.Rows.{dated_row}
-use Rattle.clock_feeds.specs.Entries.{Entry, entries, in_order, checked, row_before}
-use Rattle.lean_top.specs.DailyFile.{Sheet, no_rows, with_row, put, sheet_of, bad_line, daily_row, starts_after, sheet_after}
+use Rattle.clock_feeds.specs.Entries.{entries, in_order, checked, row_before}
+use Rattle.lean_top.specs.DailyFile.{no_rows, put, sheet_of, bad_line, daily_row, starts_after, sheet_after}
 use Rattle.lean_top.specs.declared.head.Head.{Head}
 use Rattle.lean_top.specs.declared.head.Head.TheVariants.{Row, Bad, Faulted, End}
 use Rattle.lean_top.specs.Head.{IsSaid, still_to_come, IfKnown}

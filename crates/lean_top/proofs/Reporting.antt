@@ -1,6 +1,6 @@
 -- What was printed of a tape is its report, or a front of it.
 use Rattle.std.proofs.Common.{◌≡◌, ℕ, ◌+◌, ◌-◌, ◌≤◌, List, [], ◌∷◌, ◌++◌, refl, sym, ap, ◌∙◌, subst, arith, length, append_assoc, append-nil, get_or, inl, inr}
-use Rattle.std.specs.Prelude.{Bool, Option, Some, None, flat_map, Result, Ok, Err, IfOk}
+use Rattle.std.specs.Prelude.{Bool, Option, Result, Ok, Err, IfOk}
 use Rattle.std.specs.List.{AllByRecursion}
 use Rattle.std.proofs.Math.Seq.{get_or-append_seam}
 use Rattle.std.proofs.lemmas.Grind.{flat_map-append}
@@ -16,9 +16,8 @@ use Rattle.lean_top.specs.declared.head.Head.{Head}
 use Rattle.lean_top.specs.declared.head.Head.TheVariants.{Row, Bad, Faulted, End}
 use Rattle.lean_top.specs.declared.source.Source.{Source}
 use Rattle.lean_top.specs.declared.status.Status.{Status}
-use Rattle.lean_top.specs.declared.status.Status.TheVariants.{Done, BadRow, ReadFault}
-use Rattle.lean_top.specs.DailyTape.{Security, TapeRow, Refusal, refusal, tape, tape_step, tape_line, tape_text, refusal_line, last_line, tape_report_of}
-use Rattle.lean_top.specs.Whole.{IsWhole}
+use Rattle.lean_top.specs.declared.status.Status.TheVariants.{BadRow, ReadFault}
+use Rattle.lean_top.specs.DailyTape.{Security, TapeRow, refusal, tape, tape_step, tape_line, tape_text, refusal_line, last_line, tape_report_of}
 use Rattle.lean_items.specs.declared.bad.Bad.{Bad as BadLine}
 use Rattle.lean_items.specs.declared.feed_key.FeedKind.{FeedKind}
 use Rattle.lean_items.specs.declared.feed_key.FeedKind.TheVariants.{Equity}

@@ -1,6 +1,6 @@
 -- What the top calls say follows from what was printed and from its causes.
 use Rattle.std.proofs.Common.{◌≡◌, ℕ, ◌≤◌, List, [], ◌++◌, refl, sym, ap, ◌∙◌, subst, inl, inr}
-use Rattle.std.specs.Prelude.{Option, Some, None, ◌⊎◌, Result, Ok, Err, IsErr, IsSome, length}
+use Rattle.std.specs.Prelude.{Option, Some, None, ◌⊎◌, Result, Ok, Err, IsErr, IsSome}
 use Rattle.lean_fixed.specs.declared.resolution.Resolution.{Resolution}
 use Rattle.lean_fixed.specs.declared.time.Window.{Window}
 use Rattle.lean_io.specs.Told.{Files, Rose}
@@ -13,7 +13,7 @@ use Rattle.lean_top.specs.declared.status.Status.TheVariants.{Done, Usage, Algor
 use Rattle.lean_top.specs.Command.{Asked, DailyTape, SessionTape, command}
 use Rattle.lean_top.specs.declared.head.Head.TheVariants.{Faulted}
 use Rattle.lean_top.specs.DailyTape.{Refusal, securities, tape, tape_text, last_line}
-use Rattle.lean_top.specs.Ending.{Seen, IsStop, Meets, IsComplete, ComesExactly, RefusesHours, StopsSession, HasBadRow, PrintsWholeSteps, HasRun}
+use Rattle.lean_top.specs.Ending.{Seen, IsStop, Meets, IsComplete, ComesExactly, RefusesHours, StopsSession, HasBadRow, HasRun}
 use Rattle.lean_top.specs.HoursRead.{hours_file}
 use Rattle.lean_top.specs.Outcome.{HasReported, HasTaped, HasUsage, HasStatusCause, NamesNoUsage}
 use Rattle.report_pages.specs.Printed.{IsTaken, IsFront}

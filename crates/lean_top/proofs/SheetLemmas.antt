@@ -1,8 +1,7 @@
 -- What is left of a sheet, step by step.
-use Rattle.std.proofs.Common.{◌≡◌, ℕ, suc, ◌+◌, ◌*◌, ◌/◌, ◌<◌, ◌≤◌, List, [], ◌∷◌, ◌++◌, Bool, true, false, refl, sym, ap, ◌∙◌, subst, arith, pos, append_assoc}
-use Rattle.std.specs.Prelude.{Option, Some, None, Result, Ok, Err, cond, ◌==◌, ◌&&◌, ◌⊎◌, nat_le, filter, int_lt, ◌<ℤ◌, option_map}
+use Rattle.std.proofs.Common.{◌≡◌, ℕ, ◌*◌, ◌<◌, ◌≤◌, List, [], ◌∷◌, ◌++◌, Bool, true, false, refl, sym, ap, ◌∙◌, subst, arith, pos, append_assoc}
+use Rattle.std.specs.Prelude.{Option, Some, None, Result, Ok, Err, cond, ◌==◌, ◌&&◌, nat_le, filter, int_lt, ◌<ℤ◌, option_map}
 use Rattle.std.specs.List.{list_all}
-use Rattle.std.proofs.lemmas.Bool.{cases_Bool}
 use Rattle.std.proofs.lemmas.Bool.Decides.{nat_tests}
 use Rattle.std.proofs.lemmas.Int.{ints}
 use Rattle.std.proofs.lemmas.List.Folds.{list_all-append}
@@ -17,7 +16,7 @@ use Rattle.equity_csv.specs.Rows.{dated_row}
 use Rattle.clock_feeds.specs.Entries.{Entry, entries, in_order, checked, row_before}
 use Rattle.lean_top.specs.Entry.{IsDaily, row_day}
 use Rattle.lean_top.specs.DailyFile.{Sheet, no_rows, with_row, put, sheet_of, daily_row, starts_after, sheet_after, file_sheet}
-use Rattle.lean_top.specs.DailyTape.{Security, step_of, rows_at, refusal, due_of}
+use Rattle.lean_top.specs.DailyTape.{step_of, refusal, due_of}
 use Rattle.lean_top.specs.Source.{Rises, Leaves}
 
 -- a row that starts after another stands at a later step

@@ -1,7 +1,7 @@
 -- The securities of a tape, opened one after another and given back.
-use Rattle.std.proofs.Common.{◌≡◌, ℕ, ◌+◌, ◌-◌, ◌^◌, ◌<◌, ◌≤◌, List, [], ◌∷◌, ◌++◌, refl, sym, ap, ◌∙◌, subst, arith, inl, inr, length}
+use Rattle.std.proofs.Common.{◌≡◌, ℕ, ◌+◌, ◌-◌, ◌^◌, ◌≤◌, List, [], ◌∷◌, ◌++◌, sym, subst, arith, inl, inr}
 use Rattle.std.specs.Prelude.{Option, min, ◌⊎◌}
-use Rattle.std.specs.List.{AllByRecursion, AllZip}
+use Rattle.std.specs.List.{AllZip}
 use Rattle.std.proofs.Math.Nat.{min-le_left, min-le_right, le-min}
 use Rattle.lean_io.specs.Told.{Rose}
 use Rattle.lean_io.specs.Counts.{raised}
@@ -64,6 +64,3 @@ module _ {H : Type 0} (faults : H → ℕ) where
         ]
         | inr r ↦ inr (rose_later before now later r more)
       ]
-
-  pub given-all : (sources : List (Source H)) (before now : ℕ) → IsGiven sources [] before now → HasFaulted faults sources → Rose before now
-  given-all sources before now given faulted = elim (given faulted) [ inl h ↦ absurd h | inr r ↦ r ]

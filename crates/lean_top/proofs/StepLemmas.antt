@@ -1,24 +1,23 @@
 -- What the heads of securities say of the steps of their tape.
-use Rattle.std.proofs.Common.{◌≡◌, ℕ, suc, ◌+◌, ◌<◌, ◌≤◌, List, [], ◌∷◌, ◌++◌, Bool, true, false, refl, sym, ap, ◌∙◌, subst, arith}
-use Rattle.std.specs.Prelude.{Option, Some, None, cond, ◌==◌, map, filter, flat_map, All, option_map}
-use Rattle.std.specs.List.{AllZip, list_all, AllByRecursion}
+use Rattle.std.proofs.Common.{◌≡◌, ℕ, ◌+◌, ◌<◌, ◌≤◌, List, [], ◌∷◌, ◌++◌, Bool, true, false, refl, ◌∙◌, arith}
+use Rattle.std.specs.Prelude.{Option, Some, None, cond, ◌==◌, map, flat_map}
+use Rattle.std.specs.List.{AllZip, AllByRecursion}
 use Rattle.equity_csv.specs.declared.row.Row.{Row as FileRow}
 use Rattle.std.specs.Option.{option_or}
-use Rattle.std.proofs.lemmas.Bool.{cases_Bool}
 use Rattle.std.proofs.lemmas.Bool.Decides.{nat_tests}
 use Rattle.lean_io.specs.Told.{Files}
 use Rattle.lean_items.specs.declared.bad.Bad.{Bad as BadLine}
-use Rattle.clock_steps.specs.Runs.{Ran, rests, run, IsStill}
+use Rattle.clock_steps.specs.Runs.{IsStill}
 use Rattle.line_source.specs.Reader.{lines_left}
 use Rattle.lean_top.specs.declared.head.Head.{Head}
 use Rattle.lean_top.specs.declared.head.Head.TheVariants.{Row, Bad, Faulted, End}
 use Rattle.lean_top.specs.declared.source.Source.{Source}
-use Rattle.lean_top.specs.DailyFile.{Sheet, no_rows, with_row, sheet_after}
-use Rattle.lean_top.specs.DailyTape.{Security, TapeRow, Refusal, named, refusal, step_of, rows_at, due_of, due, tape_step}
-use Rattle.lean_top.specs.Head.{still_to_come, IfKnown, StandsPast}
-use Rattle.lean_top.specs.Source.{Rises, Leaves, Follows, to_come}
-use Rattle.lean_top.specs.Steps.{row_at, IsAhead, Stops, rows_now, all_rows_now}
-use Rattle.lean_top.proofs.SheetLemmas.{row_at-next, no_row_at-next, due-row, due-stop, leaves-later, leaves-row}
+use Rattle.lean_top.specs.DailyFile.{no_rows, sheet_after}
+use Rattle.lean_top.specs.DailyTape.{Security, named, refusal, step_of, rows_at, due_of, due, tape_step}
+use Rattle.lean_top.specs.Head.{still_to_come}
+use Rattle.lean_top.specs.Source.{Leaves, Follows}
+use Rattle.lean_top.specs.Steps.{row_at, IsAhead, all_rows_now}
+use Rattle.lean_top.proofs.SheetLemmas.{row_at-next, no_row_at-next, due-row, due-stop}
 
 one_row : (b : Bool) (symbol : List ℕ) (row : FileRow) → map (named symbol) (cond b (row ∷ []) []) ≡ cond b (named symbol row ∷ []) []
 one_row true symbol row = refl

@@ -1,17 +1,17 @@
 -- How far the printing of a step has come among the securities.
-use Rattle.std.proofs.Common.{◌≡◌, ℕ, suc, ◌+◌, ◌<◌, ◌≤◌, List, [], ◌∷◌, ◌++◌, refl, sym, ap, ◌∙◌, subst, arith, length, length-append, get_or, append-nil, append_assoc}
-use Rattle.std.specs.Prelude.{Bool, Option, Some, None, flat_map}
+use Rattle.std.proofs.Common.{◌≡◌, ℕ, ◌+◌, ◌<◌, ◌≤◌, List, [], ◌∷◌, ◌++◌, refl, sym, ap, ◌∙◌, subst, arith, length, length-append, get_or, append-nil, append_assoc}
+use Rattle.std.specs.Prelude.{Bool, Option}
 use Rattle.std.specs.List.{AllByRecursion, AllZip}
 use Rattle.std.proofs.Math.ListN.{set}
 use Rattle.std.proofs.Math.Seq.{get_or-append_seam, set-append_seam}
 use Rattle.std.proofs.lemmas.Grind.{flat_map-append}
 use Rattle.lean_io.specs.Told.{Files}
 use Rattle.lean_top.specs.declared.source.Source.{Source}
-use Rattle.lean_top.specs.DailyTape.{Security, TapeRow, tape_line, tape_text}
+use Rattle.lean_top.specs.DailyTape.{Security, tape_line, tape_text}
 use Rattle.lean_top.specs.Head.{StandsPast}
 use Rattle.report_pages.specs.Printed.{IsPrinted, IsFront}
 use Rattle.lean_top.specs.Source.{IsSound, Follows}
-use Rattle.lean_top.specs.Steps.{IsAhead, AllAhead, AllPast, rows_now, all_rows_now}
+use Rattle.lean_top.specs.Steps.{AllAhead, AllPast, rows_now, all_rows_now}
 use Rattle.lean_top.proofs.NextLemmas.{all-append}
 use Rattle.report_pages.proofs.PrintedLemmas.{IsPrinted-append, IsPrinted-nothing, IsFront-behind, IsFront-more}
 

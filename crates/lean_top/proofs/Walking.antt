@@ -1,20 +1,19 @@
 -- How far a tape has come.
-use Rattle.std.proofs.Common.{◌≡◌, ℕ, suc, ◌+◌, ◌-◌, ◌<◌, ◌≤◌, List, [], ◌∷◌, ◌++◌, refl, sym, ap, ◌∙◌, subst, arith, length, length-append, append_assoc, true, false}
-use Rattle.std.specs.Prelude.{Option, Some, None, flat_map, filter, map, ◌==◌}
-use Rattle.std.specs.List.{AllByRecursion, AllZip}
+use Rattle.std.proofs.Common.{◌≡◌, ℕ, ◌+◌, ◌-◌, ◌<◌, ◌≤◌, List, [], ◌∷◌, ◌++◌, refl, sym, ap, ◌∙◌, subst, arith, length, length-append, append_assoc, false}
+use Rattle.std.specs.Prelude.{Option, None, flat_map, filter, ◌==◌}
+use Rattle.std.specs.List.{AllZip}
 use Rattle.std.proofs.lemmas.Bool.Decides.{nat_tests}
 use Rattle.std.proofs.lemmas.Grind.{flat_map-append}
 use Rattle.lean_fixed.specs.Calendar.{last_day}
 use Rattle.lean_io.specs.Told.{Files}
 use Rattle.equity_csv.specs.declared.row.Row.{Row as FileRow}
-use Rattle.clock_steps.specs.Runs.{Ran, run, IsStill}
+use Rattle.clock_steps.specs.Runs.{run, IsStill}
 use Rattle.clock_steps.proofs.RunLemmas.{run-one, run-next, run-end, run-stopped, run-front}
 use Rattle.lean_top.specs.declared.head.Head.{Head}
 use Rattle.lean_top.specs.declared.head.Head.TheVariants.{Row, Bad, Faulted, End}
 use Rattle.lean_top.specs.declared.source.Source.{Source}
-use Rattle.lean_top.specs.DailyTape.{Security, TapeRow, Refusal, named, refusal, step_of, rows_at, due, tape_step, tape_steps, tape, tape_line, tape_text}
-use Rattle.lean_top.specs.Whole.{IsWhole}
-use Rattle.lean_top.specs.Endings.{EndsAt, EndsSo}
+use Rattle.lean_top.specs.DailyTape.{Security, TapeRow, refusal, step_of, rows_at, due, tape_step, tape, tape_line, tape_text}
+use Rattle.lean_top.specs.Endings.{EndsAt}
 use Rattle.lean_top.specs.Head.{StandsPast}
 use Rattle.report_pages.specs.Printed.{IsPrinted, IsFront}
 use Rattle.lean_top.specs.Source.{Follows}

@@ -4,7 +4,7 @@ use Rattle.std.specs.Prelude.{option_map, option_and_then, nat_le, ◌&&◌, if�
 use Rattle.std.proofs.lemmas.Bool.Decides.{nat_tests}
 use Rattle.lean_fixed.specs.Calendar.{last_day}
 use Rattle.lean_fixed.specs.declared.time.Day.{Day}
-use Rattle.lean_top.specs.Command.{if_window_day, window_from, window_of}
+use Rattle.lean_top.specs.Command.{if_window_day}
 
 abbrev pub day_at : ℕ → Day
 day_at n = record { 0 = pos n }

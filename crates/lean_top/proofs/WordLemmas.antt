@@ -23,9 +23,6 @@ all_differ-push (a ∷ xs) x =
     rw (list_any-append (bytes_eq a) xs (x ∷ []), all_differ-push xs x)
     (regroup (list_any (bytes_eq a) xs) (bytes_eq a x) (all_differ xs) (list_any (λ y. bytes_eq y x) xs))
 
-keeps_false : (p q : Bool) → (not (true || p) && q) ≡ false
-keeps_false p q = refl
-
 -- texts of which the first ones are not all different are not either
 pub all_differ-front : (xs ys : List (List ℕ)) → all_differ xs ≡ false → all_differ (xs ++ ys) ≡ false
 all_differ-front [] ys no' = cc

@@ -1,5 +1,5 @@
 -- What the words ask for, as the program holds it.
-use Rattle.std.specs.Prelude.{ℕ, ◌≤◌, List, length}
+use Rattle.std.specs.Prelude.{◌≤◌, length}
 use Rattle.lean_fixed.specs.Moments.{first_moment, last_moment}
 use Rattle.lean_fixed.specs.Ranges.{IsWindow}
 use Rattle.lean_fixed.specs.declared.time.Window.{Window}

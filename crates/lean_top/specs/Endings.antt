@@ -1,5 +1,5 @@
 -- How the rows of a tape end.
-use Rattle.std.specs.Prelude.{◌≡◌, ℕ, ◌⊎◌, List, [], ◌∷◌, ◌++◌, length, Option, Some, None}
+use Rattle.std.specs.Prelude.{◌≡◌, ℕ, ◌⊎◌, List, [], ◌∷◌, length, Option, Some, None}
 use Rattle.lean_top.specs.declared.daily_tape.Ending.{Ending}
 use Rattle.lean_top.specs.declared.daily_tape.Ending.TheVariants.{Whole, Stopped}
 use Rattle.lean_top.specs.declared.head.Head.{Head}

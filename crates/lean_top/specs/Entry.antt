@@ -1,5 +1,5 @@
 -- The rows of daily files.
-use Rattle.std.specs.Prelude.{◌≡◌, ℕ, ◌+◌, ◌≤◌, ◌≤ℤ◌, unsigned_abs, pos}
+use Rattle.std.specs.Prelude.{◌≡◌, ℕ, ◌≤◌, ◌≤ℤ◌, unsigned_abs, pos}
 use Rattle.lean_fixed.specs.Calendar.{last_day}
 use Rattle.lean_fixed.specs.Moments.{day_of, midnight}
 use Rattle.equity_csv.specs.declared.row.Row.{Row}

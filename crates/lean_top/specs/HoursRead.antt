@@ -1,5 +1,5 @@
 -- The hours file of a folder: its hours, or the words with which a report refuses it.
-use Rattle.std.specs.Prelude.{◌≡◌, ℕ, nat_lt, if◌then◌else◌, List, [], ◌∷◌, ◌++◌, codes, length, Option, Some, None, Result, Ok, Err}
+use Rattle.std.specs.Prelude.{ℕ, nat_lt, if◌then◌else◌, List, [], ◌∷◌, ◌++◌, codes, length, Option, Some, None, Result, Ok, Err}
 use Rattle.lean_io.specs.Told.{Files}
 use Rattle.exchange_hours.specs.declared.fault.HoursFault.{HoursFault}
 use Rattle.exchange_hours.specs.declared.fault.HoursFault.TheVariants.{Json, NoEntry, DayForm, TimeForm, Holiday, EarlyClose, NoMemory}

@@ -1,11 +1,11 @@
 -- What the parts of a command have printed, and why they ended.
-use Rattle.std.specs.Prelude.{◌≡◌, ℕ, List, Option, Some, codes, Result, Ok, Err}
-use Rattle.lean_io.specs.Told.{Files, Rose}
+use Rattle.std.specs.Prelude.{◌≡◌, ℕ, List, Option, codes, Result, Ok, Err}
+use Rattle.lean_io.specs.Told.{Rose}
 use Rattle.clock_steps.specs.Runs.{IsFrontOf}
 use Rattle.report_pages.specs.declared.pages.Stop.{Stop}
 use Rattle.report_pages.specs.declared.pages.Stop.TheVariants.{NoMemory as OutOfMemory, WriteFault as FailedWrite}
 use Rattle.lean_top.specs.declared.status.Status.{Status}
-use Rattle.lean_top.specs.declared.status.Status.TheVariants.{Done, Usage, Algorithm, BadRow, ReadFault, WriteFault, NoMemory, Limit}
+use Rattle.lean_top.specs.declared.status.Status.TheVariants.{Usage, Algorithm, ReadFault, WriteFault, NoMemory, Limit}
 use Rattle.session_tape.specs.declared.ending.Ended.{Ended}
 use Rattle.lean_top.specs.DailyTape.{Security}
 use Rattle.lean_top.specs.Endings.{IsTapeReport, IsTapeFront}

@@ -1,5 +1,5 @@
 -- What is still to come of a security, and what holds of it between two steps of the tape.
-use Rattle.std.specs.Prelude.{◌≡◌, ℕ, ◌<◌, ◌≤◌, Bool, true, nat_le, List, [], ◌∷◌, ◌++◌, Option, Some}
+use Rattle.std.specs.Prelude.{◌≡◌, ℕ, ◌<◌, Bool, true, nat_le, List, [], ◌∷◌, ◌++◌, Option, Some}
 use Rattle.std.specs.List.{list_all}
 use Rattle.lean_io.specs.Told.{Files}
 use Rattle.line_source.specs.Reader.{hand_of, number_of, lines_left}

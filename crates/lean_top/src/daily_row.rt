@@ -1,5 +1,4 @@
 //! The rows of daily files, with what is known of them.
-ghost use Rattle.std.specs.Prelude.{◌≡◌};
 ghost use Rattle.lean_top.specs.Entry.{IsDaily};
 
 use equity_csv::Row;

@@ -1,5 +1,5 @@
 //! The daily tape: the rows of daily files by date and then in the order of the words.
-ghost use Rattle.std.specs.Prelude.{◌≡◌, ℕ, ◌+◌, ◌-◌, ◌<◌, ◌≤◌, ◌++◌, ◌∷◌, [], List, length, take, drop, IfOk, OnOk, OnErr, IfErr, IfSome, IsNone, MatchOption};
+ghost use Rattle.std.specs.Prelude.{◌≡◌, ℕ, ◌+◌, ◌-◌, ◌<◌, ◌≤◌, ◌++◌, List, length, IfOk, OnOk, OnErr, IfErr, IfSome, MatchOption};
 ghost use Rattle.std.specs.List.{AllByRecursion, AllZip};
 ghost use Rattle.lean_fixed.specs.Calendar.{last_day};
 ghost use Rattle.lean_fixed.specs.Printed.{day_text};

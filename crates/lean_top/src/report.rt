@@ -1,5 +1,5 @@
 //! The command line from its words to its report.
-ghost use Rattle.std.specs.Prelude.{◌≡◌, ◌≤◌, List, ℕ, Some, None, map, length, string_bytes};
+ghost use Rattle.std.specs.Prelude.{◌≡◌, ◌≤◌, List, Some, None, map, length, string_bytes};
 ghost use Rattle.std.specs.List.{AllByRecursion, AllZip};
 ghost use Rattle.lean_io.specs.Told.{Files, Rose};
 ghost use Rattle.lean_top.specs.Asked.{asked_by, IsAsked};

@@ -1,8 +1,7 @@
 //! The session tape: the bars of minute, hour or daily files that are in session, by their ends and then in the order of the
 //! words, behind the hours file.
-ghost use Rattle.std.specs.Prelude.{◌≡◌, ◌≤◌, ◌++◌, [], ◌∷◌, codes, Some, None, length, IfOk};
+ghost use Rattle.std.specs.Prelude.{◌≡◌, ◌≤◌, Some, length, IfOk};
 ghost use Rattle.std.specs.Arc.{arc_value};
-ghost use Rattle.exchange_hours.specs.Sessions.{LieInDays};
 ghost use Rattle.lean_io.specs.Told.{Files, Rose};
 ghost use Rattle.session_tape.specs.Session.{session_sources, session};
 ghost use Rattle.lean_top.specs.Asked.{IsInOrder};

@@ -1,5 +1,5 @@
 //! A security of the daily tape, read row by row.
-ghost use Rattle.std.specs.Prelude.{◌≡◌, ◌≤◌, Some, option_map};
+ghost use Rattle.std.specs.Prelude.{◌≡◌, Some, option_map};
 ghost use Rattle.lean_io.specs.Told.{Files};
 ghost use Rattle.line_source.specs.Lines.{lines as file_lines};
 ghost use Rattle.line_source.specs.Reader.{hand_of, number_of, lines_left};

@@ -1,7 +1,7 @@
 //! The daily tape from its rows to its last line.
-ghost use Rattle.std.specs.Prelude.{◌≡◌, ◌≤◌, ◌++◌, List, ℕ, length, IfOk, OnOk, OnErr, IfErr};
+ghost use Rattle.std.specs.Prelude.{◌≡◌, ◌≤◌, ◌++◌, List, ℕ, length, IfOk, OnErr, IfErr};
 ghost use Rattle.std.specs.List.{AllByRecursion, AllZip};
-ghost use Rattle.lean_io.specs.Told.{Files, Rose};
+ghost use Rattle.lean_io.specs.Told.{Files};
 ghost use Rattle.lean_top.specs.DailyTape.{Security};
 ghost use Rattle.lean_top.specs.Endings.{HasStopped, IsLast, IsLastAt, HasFaulted, IsTapeReport, IsTapeFront, IsTapeStatus};
 ghost use Rattle.report_pages.specs.Printed.{HasCause};

@@ -6,7 +6,7 @@ use crate::reader::{Lines, MOST_BYTES};
 use lean_io::{Failed, Hand};
 
 impl<H: Hand> Lines<H> {
-    ghost use Rattle.std.specs.Prelude.{◌≡◌, ◌+◌, ◌<◌, ◌≤◌, ◌++◌, true, false, Some, [], length, take, drop, IfOk, OnOk, OnErr};
+    ghost use Rattle.std.specs.Prelude.{◌≡◌, ◌+◌, ◌<◌, ◌≤◌, true, false, Some, [], length, take, drop, IfOk, OnOk, OnErr};
     ghost use Rattle.lean_io.specs.Told.{Files, Rose};
     ghost use Rattle.line_source.specs.Raw.{GivesRaw};
     ghost use Rattle.line_source.specs.Written.{has_no_lf};

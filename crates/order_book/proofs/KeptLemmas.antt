@@ -1,15 +1,13 @@
 -- What holds of the orders and the account holds still after an order more, a fill and another order in the place of one.
-use Rattle.std.proofs.Common.{◌≡◌, ℕ, ◌+◌, ◌<◌, Bool, true, false, cond, ◌||◌, List, [], ◌∷◌, ◌++◌, length, set, Some, refl, sym, ap, subst, ◌∙◌, arith, true≢false}
+use Rattle.std.proofs.Common.{◌≡◌, ℕ, ◌+◌, ◌<◌, true, false, List, [], ◌∷◌, ◌++◌, length, set, Some, refl, sym, ap, subst, ◌∙◌, arith, true≢false}
 use Rattle.std.specs.List.{slice_get, All}
 use Rattle.std.proofs.lemmas.List.{length-set, length_push}
-use Rattle.std.proofs.lemmas.List.Folds.{list_any-append}
-use Rattle.std.proofs.lemmas.List.Elements.{All-push, All-set, All-weaker}
+use Rattle.std.proofs.lemmas.List.Elements.{All-push, All-set}
 use Rattle.lean_orders.specs.declared.order.Order.{Order}
 use Rattle.lean_orders.specs.declared.order.OrderState.{OrderState}
 use Rattle.lean_orders.specs.declared.order.OrderState.TheVariants.{Live, Filled, Canceled, Refused}
 use Rattle.portfolio.specs.Account.{Account, held}
 use Rattle.portfolio.specs.Stands.{fills_applied, most_fills}
-use Rattle.portfolio.specs.Symbols.{is_among, same_symbol}
 use Rattle.clock_book.specs.Books.{is_live}
 use Rattle.clock_book.specs.Fitting.{most_orders}
 use Rattle.clock_book.specs.Matches.{in_state}
@@ -70,26 +68,3 @@ kept_put account orders k old o kept at lives id rests unfilled = record {
   resting = All-set (RestsWhereLive (held account)) orders k o rests kept.resting;
   applied = omega (arith, kept.applied, count_set orders k old o at (live_not_filled old.state lives), ap filled_one unfilled);
 }
-
-rests_more : (old new : List (List ℕ)) → ((s : List ℕ) → is_among s old ≡ true → is_among s new ≡ true) → (o : Order) → RestsWhereLive old o → RestsWhereLive new o
-rests_more old new more o h lives = record { ranged = (h lives).ranged; held = more o.symbol (h lives).held }
-
-pub kept_held : (old new : Account) (orders : List Order) → AreKept old orders → ((s : List ℕ) → is_among s (held old) ≡ true → is_among s (held new) ≡ true)
-    → fills_applied new ≡ fills_applied old → AreKept new orders
-kept_held old new orders kept more same = record {
-  numbered = kept.numbered;
-  few = kept.few;
-  resting = All-weaker (RestsWhereLive (held old)) (RestsWhereLive (held new)) (rests_more (held old) (held new) more) orders kept.resting;
-  applied = same ∙ kept.applied;
-}
-
--- the symbols of which there are entries, and one more
-appended : (s symbol : List ℕ) (xs : List (List ℕ)) → is_among s xs ≡ true → is_among s (xs ++ symbol ∷ []) ≡ true
-appended s symbol xs h = list_any-append (same_symbol s) xs (symbol ∷ []) ∙ ap (λ b. b || is_among s (symbol ∷ [])) h
-
-by : (b : Bool) (s symbol : List ℕ) (xs : List (List ℕ)) → is_among s xs ≡ true → is_among s (cond b xs (xs ++ symbol ∷ [])) ≡ true
-by true s symbol xs h = h
-by false s symbol xs h = appended s symbol xs h
-
-pub among_more : (s symbol : List ℕ) (xs ys : List (List ℕ)) → ys ≡ cond (is_among symbol xs) xs (xs ++ symbol ∷ []) → is_among s xs ≡ true → is_among s ys ≡ true
-among_more s symbol xs ys is h = ap (is_among s) is ∙ by (is_among symbol xs) s symbol xs h

@@ -141,14 +141,6 @@ name_set n (suc k) places (x ∷ xs) old o at dead h =
       | inr (was, later) ↦ inr (was, name_set (n + 1) k places xs old o at dead later)
     ]
 
-pub name_length : (n : ℕ) (places : List ℕ) (xs : List Order) → Name n places xs → length places ≤ length xs
-name_length n places [] h = omega (arith, ap length h)
-name_length n places (x ∷ xs) h =
-    elim h [
-      | inl (rest, is, later) ↦ omega (arith, ap length is, name_length (n + 1) rest xs later)
-      | inr (dead, later) ↦ omega (arith, name_length (n + 1) places xs later)
-    ]
-
 -- none of them is live
 abbrev pub AreDead : List Order → Type 0
 AreDead [] = Unit {0}

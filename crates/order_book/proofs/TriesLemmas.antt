@@ -13,7 +13,7 @@ use Rattle.lean_fixed.specs.declared.time.Moment.{Moment}
 use Rattle.lean_orders.specs.declared.desk.Reply.{Reply}
 use Rattle.lean_orders.specs.declared.event.Fill.{Fill}
 use Rattle.lean_orders.specs.declared.order.Order.{Order}
-use Rattle.portfolio.specs.Account.{Account, held}
+use Rattle.portfolio.specs.Account.{held}
 use Rattle.portfolio.specs.Stands.{StandsFor}
 use Rattle.lean_orders.specs.declared.order.OrderState.TheVariants.{Filled}
 use Rattle.clock_book.specs.Books.{is_live}
@@ -21,7 +21,7 @@ use Rattle.clock_book.specs.Matches.{in_state, filled_event}
 use Rattle.order_book.specs.declared.ledger.Ledger.{Ledger}
 use Rattle.order_book.specs.Filling.{fill_on, filling, after_try, said_of}
 use Rattle.order_book.specs.Resting.{Name}
-use Rattle.order_book.specs.Tries.{IsLedger, HasFills, Tries}
+use Rattle.order_book.specs.Tries.{HasFills, Tries}
 use Rattle.order_book.proofs.OrderLemmas.{AreDead, Named, next_named, none_named, joined}
 
 -- a way of filling that fills live orders alone
@@ -62,19 +62,6 @@ map_more f done skipped o same =
     append_assoc (map f done) skipped (f o ∷ [])
     ∙ ap (λ ys. map f done ++ ys) (sym (map-append f skipped (o ∷ []) ∙ ap (λ ys. ys ++ f o ∷ []) same))
     ∙ sym (map-append f done (skipped ++ o ∷ []))
-
-no_fills : (account : Account) → HasFills [] account account
-no_fills account start earlier marks stands = subst (λ fills. StandsFor account start fills marks) (sym (append-nil earlier)) stands
-
-pub tries_none : (fill : Order → Option Fill) (at : Moment) (ledger : Ledger) (said : List Reply) → Tries fill at [] [] ledger.orders.items ledger ledger said said
-tries_none fill at ledger said = record {
-  orders = refl;
-  fills = sym (append-nil ledger.fills.items);
-  account = no_fills ledger.portfolio;
-  held = refl;
-  live = refl;
-  replies = sym (append-nil said);
-}
 
 -- a fill of one order
 pub tries_one : (fill : Order → Option Fill) (at : Moment) (front back : List Order) (o order : Order) (place : ℕ) (found : Fill) (first last : Ledger) (before after : List Reply)
@@ -144,15 +131,6 @@ pub record Tried (fill : Order → Option Fill) (at : Moment) (first now : Ledge
   pub split : first.orders.items ≡ done ++ rest
   pub tries : Tries fill at [] done rest first now before after
   pub names : Name (length done) (drop i first.live.items) rest
-
-pub tried_none : (fill : Order → Option Fill) (at : Moment) (ledger : Ledger) (said : List Reply) → IsLedger ledger → Tried fill at ledger ledger said said 0
-tried_none fill at ledger said kept = record {
-  done = [];
-  rest = ledger.orders.items;
-  split = refl;
-  tries = tries_none fill at ledger said;
-  names = kept.live;
-}
 
 -- the order that a place names, and those around it
 pub record Next (fill : Order → Option Fill) (now : Ledger) (place : ℕ) : Type 0 where

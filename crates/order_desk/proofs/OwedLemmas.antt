@@ -30,9 +30,6 @@ and_true a b first second = rw (first, second) refl
 le-true : {m n : ℕ} → m ≤ n → nat_le m n ≡ true
 le-true h = grind (arith, nat_tests)
 
-true-le : {m n : ℕ} → nat_le m n ≡ true → m ≤ n
-true-le h = grind (arith, nat_tests)
-
 -- whole replies behind whole replies
 pub whole-append : (told : ℕ) (xs ys : List Reply) → is_whole told xs ≡ true → is_whole 0 ys ≡ true → is_whole told (xs ++ ys) ≡ true
 whole-append told [] ys first second =
@@ -89,21 +86,6 @@ pub due-passed : (left rest : List Reply) (r : Reply) (told answered submitted :
 due-passed left rest r told answered submitted is whole counted =
     let some : 1 ≤ dones (r ∷ rest) = whole-to_come told r rest (ap (is_whole told) (sym is) ∙ whole) in
     omega (arith, some, ap dones is, counted)
-
-if_counted : (b : Bool) (answered n : ℕ) → answered + (cond b 1 0 + n) ≡ (if b then answered + 1 else answered) + n
-if_counted true answered n = omega arith
-if_counted false answered n = omega arith
-
-pub counted-passed : (left rest : List Reply) (r : Reply) (answered submitted : ℕ) → left ≡ r ∷ rest
-    → answered + dones left ≡ submitted → (if is_done r then answered + 1 else answered) + dones rest ≡ submitted
-counted-passed left rest r answered submitted is counted =
-    omega (arith, counted, ap dones is, dones-cons r rest, if_counted (is_done r) answered (dones rest))
-
-pub whole-passed : (left rest : List Reply) (r : Reply) (told : ℕ) → left ≡ r ∷ rest
-    → is_whole told left ≡ true → (told_after told r ≤ most_told) × (is_whole (told_after told r) rest ≡ true)
-whole-passed left rest r told is whole =
-    let parts = both_true (nat_le (told_after told r) most_told) (is_whole (told_after told r) rest) (ap (is_whole told) (sym is) ∙ whole) in
-    (true-le parts.0, parts.1)
 
 pub record IsSteady (told answered submitted : ℕ) (left : List Reply) : Type 0 where
   pub counted : answered + dones left ≡ submitted

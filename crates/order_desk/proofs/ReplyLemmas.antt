@@ -163,9 +163,6 @@ served-rest cs ds rs more first both = record {
   closed = closed-rest rs more both.closed;
 }
 
-pub served-none : Served [] []
-served-none = record { each = refl; closed = refl }
-
 -- a reply is to come only where a command is not done
 pub more-to-come : (s : Book) (cs : List Command) (rs : List Reply) (r : Reply) (rest : List Reply) → replies s cs ≡ rs ++ r ∷ rest → dones rs < length cs
 more-to-come s cs rs r rest is =

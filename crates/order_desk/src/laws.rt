@@ -1,5 +1,5 @@
 //! What is true of the replies to all commands. Each law is the contract of a function that does nothing.
-ghost use Rattle.std.specs.Prelude.{◌≡◌, List, [], ◌++◌, length};
+ghost use Rattle.std.specs.Prelude.{◌≡◌, List, ◌++◌, length};
 ghost use Rattle.lean_orders.specs.declared.desk.Command.{Command};
 ghost use Rattle.lean_orders.specs.declared.desk.Reply.{Reply};
 ghost use Rattle.clock_book.specs.Books.{Book};

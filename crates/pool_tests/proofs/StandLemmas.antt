@@ -8,8 +8,8 @@ use Rattle.std.proofs.lemmas.List.Elements.{All-push, All-nil, Contains-push_cas
 use Rattle.lean_fixed.specs.Counts.{Rose}
 use Rattle.lean_items.specs.declared.item.Item.{Item}
 use Rattle.lean_items.specs.declared.item.Item.TheVariants.{Bar, Coarse, Bad, Faulted, End}
-use Rattle.lean_items.specs.Given.{is_last, IsRow, IsNext, GivesItem, OnFaulted}
-use Rattle.lean_items.specs.Taken.{Taken, Follows, more}
+use Rattle.lean_items.specs.Given.{IsRow, OnFaulted}
+use Rattle.lean_items.specs.Taken.{Taken, more}
 use Rattle.pool_tests.specs.Places.{list_at, place_behind, Standing}
 use Rattle.pool_tests.specs.Scripts.{list_of}
 

@@ -1,5 +1,5 @@
 -- What was taken of the feeds of a pool in memory.
-use Rattle.std.specs.Prelude.{◌≡◌, ℕ, ◌+◌, ◌-◌, ◌^◌, ◌<◌, ◌≤◌, Bool, if◌then◌else◌, List, ◌++◌, Option, Some, None, is_some, drop, slice_index_or, vec_len}
+use Rattle.std.specs.Prelude.{◌≡◌, ℕ, ◌+◌, ◌-◌, ◌^◌, ◌<◌, ◌≤◌, Bool, if◌then◌else◌, List, ◌++◌, Option, Some, None, is_some, drop, slice_index_or}
 use Rattle.std.specs.List.{All, Contains}
 use native.Mathlib.Omega.{arith}
 use Rattle.lean_fixed.specs.Counts.{Rose}

@@ -1,5 +1,4 @@
 //! Feeds with filled bars, by themselves and in a pool on one thread.
-ghost use Rattle.std.specs.Prelude.{◌≡◌, false};
 ghost use Rattle.lean_fixed.specs.Ranges.{IsMoment, IsWindow};
 
 use crate::cases::answered;

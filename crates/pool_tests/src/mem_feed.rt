@@ -11,7 +11,7 @@ pub struct MemFeed {
 }
 
 impl MemFeed {
-    ghost use Rattle.std.specs.Prelude.{◌≡◌, false, []};
+    ghost use Rattle.std.specs.Prelude.{◌≡◌, false};
     ghost use Rattle.pool_tests.specs.Scripts.{list_of, items_of};
 
     /// The feed of a script from its start.

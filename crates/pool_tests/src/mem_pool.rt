@@ -17,7 +17,7 @@ pub struct MemPool<'a> {
 }
 
 impl<'a> MemPool<'a> {
-    ghost use Rattle.std.specs.Prelude.{◌≡◌, ◌+◌, Some};
+    ghost use Rattle.std.specs.Prelude.{◌≡◌, Some};
     ghost use Rattle.lean_items.specs.Taken.{no_feeds};
     ghost use Rattle.pool_tests.specs.Scripts.{items_of};
     ghost use Rattle.pool_tests.specs.Places.{list_at};
@@ -38,9 +38,7 @@ impl<'a> MemPool<'a> {
 }
 
 impl Pool for MemPool<'_> {
-    ghost use Rattle.std.specs.Prelude.{◌≡◌, ◌+◌, ◌<◌, ◌≤◌, ◌==◌, true, false, not, if◌then◌else◌, ℕ, Some, None, IfOk, OnOk, slice_index_or, vec_len};
-    ghost use Rattle.lean_items.specs.Given.{is_last, OnRow};
-    ghost use Rattle.lean_items.specs.Taken.{Feeds, added_to, taken_of};
+    ghost use Rattle.std.specs.Prelude.{◌<◌, Some, None, slice_index_or, vec_len};
     ghost use Rattle.pool_tests.specs.Scripts.{items_of};
     ghost use Rattle.pool_tests.specs.Places.{list_at, is_open_at, room_behind, room-behind_few, Stands};
 

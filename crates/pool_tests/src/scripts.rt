@@ -1,5 +1,5 @@
 //! Items of a script as cases write them.
-ghost use Rattle.std.specs.Prelude.{◌+◌, ◌<◌, ◌^◌, IfOk, vec_len};
+ghost use Rattle.std.specs.Prelude.{◌+◌, ◌<◌};
 
 use crate::Script;
 use lean_fixed::{Moment, Price, Shares, Symbol};

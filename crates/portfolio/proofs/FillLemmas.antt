@@ -110,9 +110,6 @@ load-is w s (fill ∷ fills) = step (same_symbol s fill.symbol) (fills_of s fill
     step true rest n h = omega arith
     step false rest n h = omega arith
 
-bounded : (a b c : ℕ) → a ≡ b + c → a ≤ b + c
-bounded a b c e = omega arith
-
 small : (b : Bool) (n : ℕ) → (if b then n else 0) ≤ n
 small true n = omega arith
 small false n = omega arith

@@ -48,10 +48,6 @@ cash-append money start fills fill h =
 fees-append : (money : ℤ) (fills : List Fill) (fill : Fill) → money ≡ fees fills → money +ℤ fill.fee.0 ≡ fees (fills ++ fill ∷ [])
 fees-append money fills fill h = omega (arith, ints, h, sum_of-append (λ f. f.fee.0) fills (fill ∷ []))
 
--- realised profit
-profit_of : List Fill → List ℕ → ℤ
-profit_of fills s = (lot_of (fills_of s fills)).profit
-
 realised-append : (fills : List Fill) (fill : Fill)
     → realised (fills ++ fill ∷ [])
     ≡ realised fills -ℤ (lot_of (fills_of fill.symbol fills)).profit +ℤ (filled_lot (lot_of (fills_of fill.symbol fills)) fill).profit

@@ -26,7 +26,7 @@ impl Model for Portfolio {
 }
 
 impl Portfolio {
-    ghost use Rattle.std.specs.Prelude.{◌≡◌, ◌+◌, ◌<◌, ℕ, ℤ, List, [], ◌∷◌, ◌++◌, true, Option, OnOk, OnErr, option_map, slice_get, if◌then◌else◌};
+    ghost use Rattle.std.specs.Prelude.{◌≡◌, ◌+◌, ◌<◌, ℤ, List, [], ◌∷◌, ◌++◌, true, Option, OnOk, OnErr, option_map, slice_get, if◌then◌else◌};
     ghost use Rattle.lean_fixed.specs.Ranges.{IsStartingCash, IsMoney, IsPosition, IsPrice};
     ghost use Rattle.lean_orders.specs.declared.event.Fill.{Fill};
     ghost use Rattle.lean_orders.specs.Traded.{IsFill};

@@ -1,4 +1,4 @@
-ghost use Rattle.std.specs.Prelude.{◌≡◌, ◌+◌, ◌<◌, ◌≤◌, pos, unsigned_abs, ◌+ℤ◌, ◌-ℤ◌, ◌*ℤ◌};
+ghost use Rattle.std.specs.Prelude.{◌≡◌, ◌+◌, ◌<◌, pos, unsigned_abs, ◌+ℤ◌, ◌-ℤ◌, ◌*ℤ◌};
 ghost use Rattle.lean_fixed.specs.Ranges.{IsAtMost, IsPrice, IsPosition, IsFee, IsMoney, most_price};
 ghost use Rattle.lean_orders.specs.Traded.{IsFill};
 ghost use Rattle.portfolio.specs.LotRanges.{most_cost, most_value, IsBounded};

@@ -1,6 +1,6 @@
 -- The line of an event is read as that event.
-use Rattle.std.proofs.Common.{◌≡◌, ◌≢◌, ℕ, zero, suc, ◌+◌, ◌-◌, ◌/◌, ◌%◌, ◌^◌, ◌<◌, ◌≤◌, Bool, true, false, ◌||◌, ◌&&◌, ◌==◌, cond, ℤ, pos, negsuc, neg_ℤ, List, [], ◌∷◌, ◌++◌, length, get_or, take, drop, Option, Some, None, refl, ap, sym, ◌∙◌, true≢false, arith, if◌then◌else◌}
-use Rattle.std.specs.Prelude.{unsigned_abs, option_map, option_and_then, position, codes, decimal, bytes_eq, nat_le, nat_lt, not, slice_index}
+use Rattle.std.proofs.Common.{◌≡◌, ◌≢◌, ℕ, zero, suc, ◌+◌, ◌/◌, ◌%◌, ◌^◌, ◌<◌, ◌≤◌, Bool, true, false, ◌||◌, ◌&&◌, ◌==◌, cond, ℤ, pos, negsuc, neg_ℤ, List, [], ◌∷◌, ◌++◌, length, get_or, take, drop, Option, Some, None, refl, ap, sym, ◌∙◌, true≢false, arith, if◌then◌else◌}
+use Rattle.std.specs.Prelude.{option_map, option_and_then, codes, decimal, nat_le, nat_lt, not, slice_index}
 use Rattle.std.specs.List.{list_any, list_all, prefix_len}
 use Rattle.std.proofs.lemmas.Int.{ints}
 use Rattle.std.proofs.lemmas.Bool.Decides.{nat_tests}
@@ -25,7 +25,7 @@ use Rattle.lean_orders.specs.Traded.{IsFill}
 use Rattle.std.specs.Fmt.{sign_text}
 use Rattle.std.specs.Int.{is_negative}
 use Rattle.report_lines.specs.Reading.{in_range, id_of_text, shares_of_text, quantity_of_text, price_of_text, fee_of_text, kind_of_text, cause_of_text, kept_price_of, price_step, quantity_step, kind_step, submitted_of_text, filled_as, fee_step, fill_price_step, fill_step, filled_of_text, what_step, what_of_text, event_with, symbol_step, id_step, order_step, order_of_text, event_of_text}
-use Rattle.report_lines.specs.EventLines.{kind_text, cause_text, quantity_text, price_or_dash, what_text, event_line, HasPriceOf, IsWhat, IsWhatOf, IsEvent}
+use Rattle.report_lines.specs.EventLines.{kind_text, cause_text, quantity_text, price_or_dash, what_text, event_line, HasPriceOf, IsWhat, IsWhatOf}
 use Rattle.report_lines.specs.Words.{is_space, spaced, cut}
 
 -- a word has no space

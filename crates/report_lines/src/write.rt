@@ -1,9 +1,8 @@
-ghost use Rattle.std.specs.Prelude.{◌≡◌, ◌+◌, ◌≤◌, ℕ, List, [], ◌∷◌, ◌++◌, length, OnOk, OnErr, codes, decimal, unsigned_abs, vec_len, vec_capacity};
-ghost use Rattle.lean_fixed.specs.Printed.{money_text, moment_text};
+ghost use Rattle.std.specs.Prelude.{◌≡◌, ◌+◌, ◌≤◌, [], ◌∷◌, ◌++◌, OnOk, OnErr, codes, decimal, unsigned_abs, vec_len, vec_capacity};
+ghost use Rattle.lean_fixed.specs.Printed.{moment_text};
 ghost use Rattle.lean_fixed.specs.Ranges.{IsPrintedMoment};
 ghost use Rattle.lean_orders.specs.declared.event.What.TheVariants.{Submitted, Updated, Filled, Invalid};
-ghost use Rattle.report_lines.specs.Words.{spaced};
-ghost use Rattle.report_lines.specs.EventLines.{kind_text, quantity_text, price_or_dash, symbol_text, what_text, event_line, IsEvent};
+ghost use Rattle.report_lines.specs.EventLines.{price_or_dash, symbol_text, what_text, event_line, IsEvent};
 
 use crate::kinds::{cause_word, kind_word};
 use crate::put::{put, put_moment, put_money, put_number, put_price, put_quantity, put_word};

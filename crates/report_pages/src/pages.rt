@@ -1,5 +1,5 @@
 //! What is printed stands on a page first, and a full page goes to the sink.
-ghost use Rattle.std.specs.Prelude.{◌≡◌, ◌≤◌, ◌++◌, [], OnOk, OnErr, IfErr};
+ghost use Rattle.std.specs.Prelude.{◌≡◌, ◌≤◌, [], OnOk, OnErr, IfErr};
 ghost use Rattle.report_pages.specs.Printed.{IsPrinted, IsFront, HasCause, HasRoom};
 
 use lean_fixed::NoMemory;

@@ -275,19 +275,9 @@ rises Daily hours held file from end row lies starts late is =
     let high : end ≤ 1440 * (start_of row / 1440 + 1) = lie.1 in
     (omega (arith, whole, low, late), omega (arith, whole, high))
 
-pub reach_grows : (resolution : Resolution) (a b : ℕ) → a ≤ b → reach resolution a ≤ reach resolution b
-reach_grows Minute a b le = le
-reach_grows Hour a b le = omega (arith, le)
-reach_grows Daily a b le = omega (arith, le)
-
 pub reach_is : (kind : FeedKind) (resolution : Resolution) (from file : ℕ) → resolution_of kind ≡ Some resolution → reach_of kind from file ≡ reach resolution from
 reach_is Coarse resolution from file is = cc
 reach_is (Equity symbol r) resolution from file is = (let e : r ≡ resolution = cc in ap (λ r. reach r from) e)
-
--- a later file ends later
-pub reach_later : (kind : FeedKind) (from a b : ℕ) → a ≤ b → reach_of kind from a ≤ reach_of kind from b
-reach_later Coarse from a b le = omega (arith, le)
-reach_later (Equity symbol r) from a b le = omega arith
 
 last_is_small : (z : ℤ) → pos 0 ≤ℤ z → z ≤ℤ pos 84005 → 1440 * (unsigned_abs z + 1) ≤ 120968640
 last_is_small (pos n) low high = omega (arith, ints)

@@ -10,7 +10,7 @@ use lean_fixed::ranges::MINUTES_PER_DAY;
 use lean_items::{CoarseRow, Item, Reason};
 
 impl Course {
-    ghost use Rattle.std.specs.Prelude.{◌≡◌, ℕ, ◌+◌, ◌<◌, ◌≤◌, true, List, ◌∷◌, Option, Some};
+    ghost use Rattle.std.specs.Prelude.{◌≡◌, ℕ, ◌+◌, ◌<◌, true, List, ◌∷◌, Option, Some};
     ghost use Rattle.lean_fixed.specs.Moments.{midnight, last_moment};
     ghost use Rattle.lean_io.specs.Told.{Files};
     ghost use Rattle.lean_items.specs.Coarse.{IsCoarse};

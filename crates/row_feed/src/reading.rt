@@ -5,7 +5,7 @@ use lean_io::{Failed, Hand};
 use line_source::{Line, Lines};
 
 impl<H: Hand> Reader<H> {
-    ghost use Rattle.std.specs.Prelude.{◌≡◌, ◌+◌, ◌<◌, ◌≤◌, true, false, Some, None, if◌then◌else◌, option_map, IfOk, IfErr, OnOk, OnErr};
+    ghost use Rattle.std.specs.Prelude.{◌≡◌, ◌<◌, ◌≤◌, true, false, Some, None, if◌then◌else◌, option_map, IfOk, OnErr};
     ghost use Rattle.lean_io.specs.Told.{Files, Rose};
     ghost use Rattle.line_source.specs.Lines.{lines};
     ghost use Rattle.line_source.specs.Reader.{GivesLine, HasCause};

@@ -1,5 +1,5 @@
 //! The session of a day, and the bars by it.
-ghost use Rattle.std.specs.Prelude.{◌≡◌, ◌≤◌, ◌+◌, Some, IfSome, option_map};
+ghost use Rattle.std.specs.Prelude.{◌≡◌, ◌≤◌, ◌+◌, Some};
 ghost use Rattle.lean_fixed.specs.Calendar.{last_day};
 ghost use Rattle.exchange_hours.specs.Sessions.{session};
 ghost use Rattle.row_feed.specs.Spans.{interval, end_by, meets_by};

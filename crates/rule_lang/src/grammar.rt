@@ -1,7 +1,7 @@
 //! From tokens to a tree: each rule of the grammar is a function, but `or`, `and`, `sum` and `term`, which are one loop at
 //! four levels. Only what opens a level calls the rules anew, and so the calls are as deep as the levels that are open.
 
-ghost use Rattle.std.specs.Prelude.{◌≡◌, ◌+◌, ◌≤◌, ◌<◌, Ok, IfOk, IfSome, length};
+ghost use Rattle.std.specs.Prelude.{◌≡◌, ◌≤◌, ◌<◌, Ok, IfOk, IfSome, length};
 ghost use Rattle.bar_windows.specs.Kept.{IsLength};
 ghost use Rattle.rule_lang.specs.declared.token.Level.TheVariants.{Compared};
 ghost use Rattle.rule_lang.specs.Grammar as spec;

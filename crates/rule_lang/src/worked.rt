@@ -1,6 +1,6 @@
 //! The definitions computed on worked values: empty functions whose contracts are the values.
 
-ghost use Rattle.std.specs.Prelude.{◌≡◌, [], ◌∷◌, Some, None, Ok, Err, true, false, codes, replicate, pos, negsuc};
+ghost use Rattle.std.specs.Prelude.{◌≡◌, [], ◌∷◌, Some, None, Ok, Err, false, codes, replicate, pos, negsuc};
 ghost use Rattle.bar_windows.specs.declared.spec.Func.TheVariants as func;
 ghost use Rattle.bar_windows.specs.declared.spec.WindowSpec.{WindowSpec};
 ghost use Rattle.rule_lang.specs.declared.fault.Want.TheVariants.{Truth, Number};

@@ -1,60 +1,25 @@
 -- What was printed of a session tape is its report, or a front of it.
-use Rattle.std.proofs.Common.{◌≡◌, ℕ, ◌+◌, ◌-◌, ◌≤◌, List, [], ◌∷◌, ◌++◌, refl, sym, ap, ◌∙◌, subst, arith, length, append_assoc, append-nil}
-use Rattle.std.specs.Prelude.{Option, Some, None, flat_map, Result, Ok, Err, IfOk}
+use Rattle.std.proofs.Common.{◌≡◌, ℕ, ◌+◌, ◌-◌, List, [], ◌++◌, sym, ap, ◌∙◌, subst, arith, length, append_assoc, append-nil}
+use Rattle.std.specs.Prelude.{Option, Result, Ok, Err, IfOk}
 use Rattle.std.proofs.lemmas.Grind.{flat_map-append}
-use Rattle.lean_fixed.specs.Calendar.{last_day}
 use Rattle.lean_fixed.specs.Moments.{first_moment, last_moment}
 use Rattle.lean_fixed.specs.declared.resolution.Resolution.{Resolution}
 use Rattle.lean_fixed.specs.declared.time.Window.{Window}
-use Rattle.lean_items.specs.declared.feed_key.FeedKind.TheVariants.{Equity}
 use Rattle.clock_feeds.specs.Slices.{Source}
-use Rattle.clock_steps.specs.Runs.{Ran, IsFrontOf}
+use Rattle.clock_steps.specs.Runs.{IsFrontOf}
 use Rattle.clock_steps.proofs.RunLemmas.{run-front}
-use Rattle.report_pages.specs.Lines.{end_line, data_line}
-use Rattle.report_pages.specs.Printed.{IsPrinted, IsTaken, IsFront}
-use Rattle.report_pages.proofs.PrintedLemmas.{IsFront-behind, IsFront-more, IsFront-printed, IsTaken-append}
+use Rattle.report_pages.specs.Lines.{end_line}
+use Rattle.report_pages.specs.Printed.{IsFront}
+use Rattle.report_pages.proofs.PrintedLemmas.{IsFront-behind, IsFront-more, IsFront-printed}
 use Rattle.session_tape.specs.declared.ending.Ended.{Ended}
-use Rattle.session_tape.specs.declared.ending.Ended.TheVariants.{Done, BadRow, ReadFault}
 use Rattle.session_tape.specs.declared.ending.Ending.{Ending}
 use Rattle.session_tape.specs.declared.ending.Ending.TheVariants.{Whole, Refused, Faulted}
-use Rattle.session_tape.specs.Reports.{ended_by, HasFile, IsReport, IsReportFront, IsLast}
-use Rattle.session_tape.specs.Session.{SessionBar, Refusal, session_line, session_text, last_line, session_bytes, session_minute, session_minutes, session}
+use Rattle.session_tape.specs.Reports.{HasFile, IsReportFront, IsLast}
+use Rattle.session_tape.specs.Session.{SessionBar, session_line, session_text, last_line, session_bytes, session_minute, session_minutes, session}
 use Rattle.session_tape.specs.Walked.{EndsSo, IsWalked}
 use Rattle.session_tape.specs.Whole.{IsWhole}
 
--- an empty page and all that was printed behind it went into the sink
-taken_whole : (before after last : Option (List ℕ)) (new bytes more : List ℕ) → IsPrinted before after [] new bytes → IsPrinted after last (new ++ more) [] [] → IsTaken before last (bytes ++ more)
-taken_whole before after last new bytes more first flushed =
-    let all : bytes ≡ first.written ++ new = first.rest in
-    let rest : new ++ more ≡ flushed.written = sym (append-nil (new ++ more)) ∙ flushed.rest ∙ append-nil flushed.written in
-    let text : bytes ++ more ≡ first.written ++ flushed.written = ap (λ b. b ++ more) all ∙ append_assoc first.written new more ∙ ap (λ b. first.written ++ b) rest in
-    subst (IsTaken before last) (sym text) (IsTaken-append before after last first.written flushed.written first.taken flushed.taken)
-
 module _ (resolution : Resolution) (window : Window) (sources : List (List ℕ × Source)) where
-  -- how a tape is printed that ended with these bars
-  abbrev ran : List SessionBar → Option Refusal → Ran (Unit {0}) SessionBar Refusal
-  ran bars stop = record { lines = bars; state = tt; stop = stop }
-
-  report_by : (bars : List SessionBar) (stop : Option Refusal) (before after : Option (List ℕ)) (ended : Ended) → session sources window ≡ ran bars stop → ended ≡ ended_by stop
-      → IsTaken before after (session_text bars ++ last_line resolution (length bars) stop)
-      → (ended ≡ ended_by (session sources window).stop) × IsTaken before after (session_bytes resolution (session sources window))
-  report_by bars stop before after ended ends is taken = (
-    is ∙ ap (λ r. ended_by r.stop) (sym ends),
-    subst (IsTaken before after) (ap (session_bytes resolution) (sym ends)) taken,
-  )
-
-  report_of : (bars : List SessionBar) (ending : Ending) (ended : Ended) (last : List ℕ) (before after : Option (List ℕ)) → EndsSo sources window bars ending
-      → IsLast resolution ending ended last → IsTaken before after (session_text bars ++ last) → IsReport resolution window sources before after ended
-  report_of bars (Whole count) ended last before after (ends, counted) (is, line) taken =
-      let text : IsTaken before after (session_text bars ++ end_line (length bars)) = subst (λ l. IsTaken before after (session_text bars ++ l)) (line ∙ ap end_line counted) taken in
-      subst (λ e. IsReport resolution window sources before after e) (sym is) (report_by bars None before after Done ends refl text)
-  report_of bars (Refused symbol bad) ended last before after (ends, small) (is, line) taken =
-      let text : IsTaken before after (session_text bars ++ data_line (Equity symbol resolution) bad) = subst (λ l. IsTaken before after (session_text bars ++ l)) line taken in
-      subst (λ e. IsReport resolution window sources before after e) (sym is) (report_by bars (Some (symbol, bad)) before after BadRow ends refl text)
-  report_of bars Faulted ended last before after whole (is, none) taken =
-      subst (λ e. IsReport resolution window sources before after e) (sym is)
-      (bars, whole, subst (IsTaken before after) (ap (λ l. session_text bars ++ l) none ∙ append-nil (session_text bars)) taken)
-
   has_file : (bars : List SessionBar) (ending : Ending) → EndsSo sources window bars ending → HasFile ending
   has_file bars (Whole count) ends = tt
   has_file bars (Refused symbol bad) ends = ends.1
@@ -62,13 +27,6 @@ module _ (resolution : Resolution) (window : Window) (sources : List (List ℕ �
 
   abbrev pub Lasts : List ℕ → List ℕ → Ending → Ended → Type 0
   Lasts page page1 ending ended = HasFile ending → (last : List ℕ) × (page1 ≡ page ++ last) × IsLast resolution ending ended last
-
-  pub ended_told : (told mid new : Option (List ℕ)) (page page1 : List ℕ) (ending : Ending) (ended : Ended) → IsWalked sources window told mid [] page ending
-      → Lasts page page1 ending ended → IsPrinted mid new page1 [] [] → IsReport resolution window sources told new ended
-  ended_told told mid new page page1 ending ended w lasts flushed =
-      let (last, is_page, is_last) = lasts (has_file w.bars ending w.ends) in
-      report_of w.bars ending ended last told new w.ends is_last
-      (taken_whole told mid new page (session_text w.bars) last w.printed (subst (λ p. IsPrinted mid new p [] []) is_page flushed))
 
   -- ---- a front
 

@@ -1,9 +1,9 @@
 -- The lists of the feeds of a session tape, and what ends at a moment in them.
-use Rattle.std.proofs.Common.{◌≡◌, ℕ, zero, suc, ◌+◌, ◌<◌, ◌≤◌, Bool, true, false, ℤ, pos, ◌≤ℤ◌, List, [], ◌∷◌, ◌++◌, map, length, Option, Some, None, refl, sym, ap, ◌∙◌, subst, arith, append_assoc}
-use Rattle.std.specs.Prelude.{if◌then◌else◌, filter_map, option_map, slice_get, flat_map}
+use Rattle.std.proofs.Common.{◌≡◌, ℕ, suc, ◌+◌, ◌≤◌, Bool, true, false, pos, List, [], ◌∷◌, ◌++◌, map, length, Option, Some, None, refl, sym, ap, ◌∙◌, subst, arith, append_assoc}
+use Rattle.std.specs.Prelude.{if◌then◌else◌, option_map, slice_get}
 use Rattle.std.specs.List.{All, filter, list_all}
 use Rattle.std.specs.Option.{option_or, option_to_list}
-use Rattle.std.proofs.lemmas.Bool.{true≢false, false≢true}
+use Rattle.std.proofs.lemmas.Bool.{false≢true}
 use Rattle.std.proofs.lemmas.Int.{ints}
 use Rattle.std.proofs.lemmas.List.Elements.{All-nil, All-cons, filter_map-append}
 use Rattle.lean_fixed.specs.Calendar.{last_day}
@@ -12,19 +12,18 @@ use Rattle.lean_fixed.specs.Ranges.{IsWindow}
 use Rattle.lean_fixed.specs.declared.resolution.Resolution.{Resolution}
 use Rattle.lean_fixed.specs.declared.time.Window.{Window}
 use Rattle.lean_io.specs.Told.{Files}
-use Rattle.lean_items.specs.declared.arrival.Arrival.{Arrival}
 use Rattle.lean_items.specs.declared.bad.Bad.{Bad as BadLine}
 use Rattle.lean_items.specs.declared.bar.Bar.{Bar as BarValue}
 use Rattle.lean_items.specs.declared.feed_key.FeedKey.{FeedKey}
 use Rattle.lean_items.specs.declared.feed_no.FeedNo.{FeedNo}
 use Rattle.lean_items.specs.declared.item.Item.{Item}
-use Rattle.lean_items.specs.declared.item.Item.TheVariants.{Bar, Coarse, Bad, Faulted, End}
+use Rattle.lean_items.specs.declared.item.Item.TheVariants.{Bar}
 use Rattle.lean_items.specs.Fits.{Rises}
 use Rattle.exchange_hours.specs.Entries.{Entries}
 use Rattle.clock_feeds.specs.Bars.{bar_at, ends_by, blocked}
 use Rattle.clock_feeds.specs.Kept.{Kept}
-use Rattle.clock_feeds.specs.Feeds.{bars_of, last_item, row_items, feed}
-use Rattle.clock_feeds.specs.Lists.{StopsInFile, bars_ending, blocked_in, list_of, bars_in, slice_in, bad_in, refused_in, EndInWindows}
+use Rattle.clock_feeds.specs.Feeds.{bars_of, last_item}
+use Rattle.clock_feeds.specs.Lists.{StopsInFile, list_of, bars_in, slice_in, refused_in, EndInWindows}
 use Rattle.clock_feeds.specs.Slices.{Source, slice, refused}
 use Rattle.clock_feeds.proofs.CutLemmas.{sound_end}
 use Rattle.clock_feeds.proofs.FileLemmas.{bars_stop}

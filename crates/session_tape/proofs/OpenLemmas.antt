@@ -1,8 +1,7 @@
 -- The first heads of the feeds, one feed after another.
-use Rattle.std.proofs.Common.{◌≡◌, ℕ, zero, suc, ◌+◌, ◌<◌, ◌≤◌, ◌⊎◌, Bool, true, false, cond, eqb, ℤ, pos, ◌+ℤ◌, ◌≤ℤ◌, ◌<ℤ◌, List, [], ◌∷◌, ◌++◌, map, length, take, Option, Some, None, refl, sym, ap, ◌∙◌, subst, arith, inl, inr, append-nil}
+use Rattle.std.proofs.Common.{◌≡◌, ℕ, zero, suc, ◌+◌, ◌<◌, ◌≤◌, ◌⊎◌, Bool, true, false, cond, eqb, ℤ, pos, List, [], ◌∷◌, ◌++◌, length, Option, Some, None, refl, sym, ap, ◌∙◌, subst, arith, inl, inr}
 use Rattle.std.specs.Prelude.{◌≢◌, not, option_map, int_lt, nat_lt, Ok}
-use Rattle.std.specs.List.{All, Contains, filter}
-use Rattle.std.proofs.lemmas.Int.{ints}
+use Rattle.std.specs.List.{All}
 use Rattle.std.proofs.lemmas.Bool.{true≢false, and_parts}
 use Rattle.std.proofs.lemmas.Bool.Decides.{eqb_tells}
 use Rattle.std.proofs.lemmas.List.Elements.{All-nil, All-cons, All-head, All-tail, All-weaker, All-append, Contains-push}
@@ -20,7 +19,7 @@ use Rattle.lean_items.specs.declared.item.Item.{Item}
 use Rattle.lean_items.specs.declared.item.Item.TheVariants.{Bar, Coarse, Bad, Faulted, End}
 use Rattle.lean_items.specs.Fits.{fits, is_bar_in_range, Rises}
 use Rattle.lean_items.specs.Given.{end_of, is_last, IsRow}
-use Rattle.lean_items.specs.Taken.{Feeds, Taken, Follows, AllFollow, added_to, more, no_feeds}
+use Rattle.lean_items.specs.Taken.{Feeds, Taken, Follows, AllFollow, added_to, more}
 use Rattle.exchange_hours.specs.Entries.{Entries}
 use Rattle.frontier_sync.specs.Heads.{arrival, put, ends_past, EndsFrom, AreOpen}
 use Rattle.frontier_sync.specs.Slices.{taken_one, TakesOfOne}
@@ -121,9 +120,6 @@ past_fits start (Bad bad) h bars = refl
 past_fits start Faulted h bars = refl
 past_fits start End h bars = refl
 
-head_is : (d : Item) (list rest : List Item) (x : Item) → list ≡ x ∷ rest → (y : Item) × (more : List Item) × (list ≡ y ∷ more) × (y ≡ x)
-head_is d list rest x e = (x, rest, e, refl)
-
 first_of : (start : ℤ) (list : List Item) (p : Item) (rest : List Item) → Rises start list → AreBars list → list ≡ p ∷ rest → ends_past start p ≡ true
 first_of start list p rest rises bars e =
     let r : Rises start (p ∷ rest) = subst (Rises start) e rises in
@@ -164,15 +160,6 @@ module _ (resolution : Resolution) (window : Window) where
     pub beyond : (n : ℕ) → length symbols ≤ n → feeds n ≡ None
     pub stand : (lists : FeedKey → List Item) (f : Files) (hours : Entries) → AreFeeds lists f hours window → AllFollow lists feeds
         → HeadsStand (pos (first + 1)) feeds 0 heads (keys_of resolution window symbols)
-
-  pub opened_none : (stands : ℕ → Feeds → Type 0) (before : ℕ) → stands before no_feeds → Opened stands before [] []
-  opened_none stands before stand = record {
-    feeds = no_feeds;
-    stands_now = stand;
-    taken = All-nil (IsTaken no_feeds);
-    beyond = λ n le. refl;
-    stand = λ lists f hours are follow. tt;
-  }
 
   -- one symbol more
   pub opened_more : (is_window : IsWindow window) (old added new : ℕ → Feeds → Type 0) (before : ℕ) (heads : List Arrival) (symbols : List (List ℕ)) (symbol : List ℕ) (feed : FeedNo)

@@ -1,17 +1,16 @@
 -- The bars of a slice, one after another.
-use Rattle.std.proofs.Common.{◌≡◌, ℕ, zero, suc, ◌+◌, ◌<◌, ◌≤◌, List, [], ◌∷◌, ◌++◌, take, drop, length, length-append, get_or, Option, Some, None, refl, sym, ap, ◌∙◌, subst, arith, append_assoc, take-append-drop}
-use Rattle.std.specs.Prelude.{filter_map, slice_get}
-use Rattle.std.specs.List.{All, cons_option}
+use Rattle.std.proofs.Common.{◌≡◌, ℕ, ◌+◌, ◌<◌, ◌≤◌, List, [], ◌∷◌, ◌++◌, take, drop, length, length-append, get_or, Option, Some, None, refl, sym, ap, ◌∙◌, subst, arith, append_assoc, take-append-drop}
+use Rattle.std.specs.Prelude.{slice_get}
+use Rattle.std.specs.List.{cons_option}
 use Rattle.std.specs.Option.{option_to_list}
-use Rattle.std.proofs.Math.Seq.{drop-cons}
 use Rattle.std.proofs.lemmas.Grind.{flat_map-append}
 use Rattle.std.proofs.lemmas.List.{take_more}
-use Rattle.std.proofs.lemmas.List.Elements.{filter_map-append, All-append, All-head, All-tail}
+use Rattle.std.proofs.lemmas.List.Elements.{filter_map-append}
 use Rattle.lean_items.specs.declared.arrival.Arrival.{Arrival}
 use Rattle.lean_items.specs.declared.item.Item.{Item}
 use Rattle.lean_items.specs.declared.item.Item.TheVariants.{Bar, Coarse, Bad, Faulted, End}
 use Rattle.report_pages.specs.Printed.{IsPrinted, IsFront}
-use Rattle.report_pages.proofs.PrintedLemmas.{IsPrinted-nothing, IsPrinted-append, IsFront-behind, IsFront-more}
+use Rattle.report_pages.proofs.PrintedLemmas.{IsPrinted-append, IsFront-behind, IsFront-more}
 use Rattle.session_tape.specs.Session.{SessionBar, session_line, session_text}
 use Rattle.session_tape.specs.Shown.{shown_item, shown_one, shown}
 
@@ -33,9 +32,6 @@ module _ (symbols : List (List ℕ)) where
     pub counted : rows ≡ length (shown symbols (take i slice))
     pub few : rows ≤ i
     pub printed : IsPrinted told0 told page0 page (session_text (shown symbols (take i slice)))
-
-  pub printing_none : (slice : List Arrival) (told : Option (List ℕ)) (page : List ℕ) → Printing slice 0 0 told told page page
-  printing_none slice told page = record { counted = refl; few = omega arith; printed = IsPrinted-nothing told page }
 
   pub printing_more : (slice : List Arrival) (i rows more : ℕ) (a : Arrival) (told0 told told1 : Option (List ℕ)) (page0 page page1 : List ℕ) → Printing slice i rows told0 told page0 page
       → i < length slice → a ≡ get_or slice i a → more ≡ length (here a) → more ≤ 1 → IsPrinted told told1 page page1 (session_text (here a))
@@ -64,19 +60,6 @@ module _ (symbols : List (List ℕ)) where
       subst (IsFront told told1) (append_assoc page (session_text (here a)) (session_text rest)) (IsFront-more told told1 (page ++ session_text (here a)) (session_text rest) front) in
       subst (λ t. IsFront told0 told1 (page0 ++ t)) (sym text)
       (IsFront-behind told0 told told1 page0 page (session_text before) (session_text (here a) ++ session_text rest) p.printed more)
-
-  pub printing_whole : (slice : List Arrival) (i rows : ℕ) (told0 told : Option (List ℕ)) (page0 page : List ℕ) → Printing slice i rows told0 told page0 page → take i slice ≡ slice
-      → (rows ≡ length (shown symbols slice)) × IsPrinted told0 told page0 page (session_text (shown symbols slice))
-  printing_whole slice i rows told0 told page0 page p all = (
-    p.counted ∙ ap (λ xs. length (shown symbols xs)) all,
-    subst (λ xs. IsPrinted told0 told page0 page (session_text (shown symbols xs))) all p.printed,
-  )
-
--- one of many
-pub one_of : (P : Arrival → Type 0) (slice : List Arrival) (i : ℕ) (a : Arrival) → All P slice → i < length slice → a ≡ get_or slice i a → P a
-one_of P [] i a all within is = absurd (omega (arith, within))
-one_of P (x ∷ slice) zero a all within is = subst P (sym is) (All-head P x slice all)
-one_of P (x ∷ slice) (suc i) a all within is = one_of P slice i a (All-tail P x slice all) (omega (arith, within)) is
 
 -- a feed without a symbol shows nothing
 pub none_shown : (symbols : List (List ℕ)) (a : Arrival) → slice_get symbols a.feed.0 ≡ None → shown_one symbols a ≡ None

@@ -1,27 +1,26 @@
 -- What ends at a moment in a list, and whether the list is blocked then.
-use Rattle.std.proofs.Common.{◌≡◌, ℕ, zero, suc, ◌+◌, ◌<◌, ◌≤◌, Bool, true, false, ℤ, pos, negsuc, ◌+ℤ◌, ◌≤ℤ◌, ◌<ℤ◌, List, [], ◌∷◌, ◌++◌, map, Option, Some, None, refl, sym, ap, ◌∙◌, subst, arith, inl, inr}
-use Rattle.std.specs.Prelude.{◌==◌, ◌&&◌, nat_le, nat_lt, int_lt, int_le, unsigned_abs, if◌then◌else◌, filter_map, option_map, slice_get}
+use Rattle.std.proofs.Common.{◌≡◌, ℕ, ◌+◌, ◌≤◌, Bool, true, false, ℤ, pos, negsuc, ◌≤ℤ◌, ◌<ℤ◌, List, [], ◌∷◌, ◌++◌, map, Option, Some, None, refl, sym, ap, ◌∙◌, arith, inl, inr}
+use Rattle.std.specs.Prelude.{◌==◌, nat_le, int_lt, int_le, unsigned_abs, if◌then◌else◌, filter_map, slice_get}
 use Rattle.std.specs.List.{All, filter, list_all, cons_option}
 use Rattle.std.specs.Ordering.{int_eq}
-use Rattle.std.proofs.lemmas.Bool.{cases_Bool, true≢false, false≢true, and_parts}
+use Rattle.std.proofs.lemmas.Bool.{cases_Bool, and_parts}
 use Rattle.std.proofs.lemmas.Bool.Decides.{Decides-int_eq, eqb_tells}
 use Rattle.std.proofs.lemmas.Int.{ints}
-use Rattle.std.proofs.lemmas.List.Elements.{All-nil, All-cons, All-head, All-tail, filter_map-append}
-use Rattle.lean_items.specs.declared.arrival.Arrival.{Arrival}
+use Rattle.std.proofs.lemmas.List.Elements.{All-head, All-tail}
 use Rattle.lean_items.specs.declared.bad.Bad.{Bad as BadLine}
 use Rattle.lean_items.specs.declared.bar.Bar.{Bar as BarValue}
 use Rattle.lean_items.specs.declared.feed_no.FeedNo.{FeedNo}
 use Rattle.lean_items.specs.declared.item.Item.{Item}
 use Rattle.lean_items.specs.declared.item.Item.TheVariants.{Bar, Coarse, Bad, Faulted, End}
 use Rattle.lean_items.specs.Fits.{end_or, is_bar_in_range, is_row_in_range, Rises}
-use Rattle.lean_items.specs.Given.{is_last, IsRow, end_of}
+use Rattle.lean_items.specs.Given.{IsRow, end_of}
 use Rattle.clock_feeds.specs.Bars.{end_of as bar_end}
-use Rattle.clock_feeds.specs.Lists.{bar_ending, bars_ending, is_by, stop_in, blocked_in}
-use Rattle.frontier_sync.specs.Heads.{arrival, EndsFrom}
+use Rattle.clock_feeds.specs.Lists.{bars_ending, is_by, stop_in, blocked_in}
+use Rattle.frontier_sync.specs.Heads.{arrival}
 use Rattle.frontier_sync.specs.Slices.{ends_at}
 use Rattle.frontier_sync.specs.Stands.{EndsBefore, is_coarse, AreBars}
 use Rattle.session_tape.specs.Session.{SessionBar}
-use Rattle.session_tape.specs.Shown.{shown_item, shown_one, shown}
+use Rattle.session_tape.specs.Shown.{shown_item, shown_one}
 
 -- a moment from 0 on is its own absolute value
 same_end : (e : ℤ) (t : ℕ) → pos 0 ≤ℤ e → int_eq e (pos t) ≡ (unsigned_abs e == t)

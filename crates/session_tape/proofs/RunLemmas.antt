@@ -1,9 +1,9 @@
 -- How far a session tape has come: what was printed is what the first minutes of its run print.
-use Rattle.std.proofs.Common.{◌≡◌, ℕ, zero, suc, ◌+◌, ◌-◌, ◌*◌, ◌<◌, ◌≤◌, List, [], ◌∷◌, ◌++◌, length, length-append, Option, Some, None, refl, sym, ap, ◌∙◌, subst, arith, append-nil}
+use Rattle.std.proofs.Common.{◌≡◌, ℕ, ◌+◌, ◌-◌, ◌*◌, ◌<◌, ◌≤◌, List, [], ◌++◌, length, length-append, Some, None, refl, sym, ap, ◌∙◌, subst, arith}
 use Rattle.lean_fixed.specs.Moments.{first_moment, last_moment}
 use Rattle.lean_fixed.specs.declared.time.Window.{Window}
 use Rattle.clock_feeds.specs.Slices.{Source, slice, refused}
-use Rattle.clock_steps.specs.Runs.{Ran, run, rests, behind, IsStill, IsFrontOf}
+use Rattle.clock_steps.specs.Runs.{Ran, behind, IsStill, IsFrontOf}
 use Rattle.clock_steps.proofs.RunLemmas.{run-one, run-next, run-end, run-stopped, run-front}
 use Rattle.session_tape.specs.Session.{SessionBar, Refusal, session_minute, session_minutes, session}
 use Rattle.session_tape.specs.Whole.{IsWhole}

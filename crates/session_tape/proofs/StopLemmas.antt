@@ -1,9 +1,9 @@
 -- Which malformed line is due, by the heads of the feeds.
-use Rattle.std.proofs.Common.{◌≡◌, ℕ, zero, suc, ◌+◌, ◌<◌, ◌≤◌, Bool, true, false, ℤ, pos, ◌≤ℤ◌, List, [], ◌∷◌, ◌++◌, map, length, Option, Some, None, refl, sym, ap, ◌∙◌, subst, arith, append_assoc, inl, inr}
+use Rattle.std.proofs.Common.{◌≡◌, ℕ, ◌+◌, Bool, true, false, ℤ, pos, ◌≤ℤ◌, List, [], ◌∷◌, ◌++◌, map, length, Option, Some, None, refl, sym, ap, ◌∙◌, subst, arith, append_assoc, inl, inr}
 use Rattle.std.specs.Prelude.{option_map, slice_get, find, unwrap_or}
 use Rattle.std.specs.List.{All}
 use Rattle.std.specs.Option.{option_or}
-use Rattle.std.proofs.lemmas.Bool.{cases_Bool, true≢false, false≢true}
+use Rattle.std.proofs.lemmas.Bool.{cases_Bool, true≢false}
 use Rattle.std.proofs.lemmas.Int.{ints}
 use Rattle.std.proofs.lemmas.Option.{none-some}
 use Rattle.std.proofs.lemmas.List.Elements.{All-head, All-tail, All-weaker}
@@ -21,13 +21,12 @@ use Rattle.lean_items.specs.Fits.{Rises}
 use Rattle.lean_items.specs.Given.{end_of, IsRow}
 use Rattle.lean_items.specs.Taken.{Feeds, AllFollow, Follows}
 use Rattle.exchange_hours.specs.Entries.{Entries}
-use Rattle.clock_feeds.specs.Feeds.{last_item}
-use Rattle.clock_feeds.specs.Lists.{blocked_in, bad_in, refused_in}
+use Rattle.clock_feeds.specs.Lists.{blocked_in, refused_in}
 use Rattle.clock_feeds.proofs.StandLemmas.{not_blocked, blocked_last}
 use Rattle.frontier_sync.specs.Heads.{EndsFrom, stops}
 use Rattle.frontier_sync.specs.Stands.{EndsBefore, AtHead, HeadsStand, AreBars}
 use Rattle.frontier_sync.proofs.StandLemmas.{stood, stood-last}
-use Rattle.session_tape.specs.Session.{SessionBar, Refusal, session_key}
+use Rattle.session_tape.specs.Session.{Refusal, session_key}
 use Rattle.session_tape.specs.Walked.{keys_of, AreFeeds}
 use Rattle.session_tape.proofs.RowLemmas.{end_from, ended_open, before_row, given_by, no_coarse}
 use Rattle.session_tape.proofs.ListLemmas.{named, is_list, are_bars, list_rises, one_more, behind_front}

@@ -1,11 +1,10 @@
 -- From one end to the next: what is known of the pool, the heads and the page.
-use Rattle.std.proofs.Common.{◌≡◌, ℕ, zero, suc, ◌+◌, ◌-◌, ◌*◌, ◌^◌, ◌<◌, ◌≤◌, Bool, true, false, ℤ, pos, ◌+ℤ◌, ◌≤ℤ◌, ◌<ℤ◌, List, [], ◌∷◌, ◌++◌, map, length, Option, Some, None, refl, sym, ap, ◌∙◌, subst, arith, inl, inr, append_assoc, append-nil}
-use Rattle.std.specs.Prelude.{min, option_map, slice_get, find, flat_map, unwrap_or, Result, Ok, Err}
-use Rattle.std.specs.List.{All, AllZip, Contains, filter}
+use Rattle.std.proofs.Common.{◌≡◌, ℕ, ◌+◌, ◌-◌, ◌^◌, ◌<◌, ◌≤◌, true, ℤ, pos, List, [], ◌∷◌, ◌++◌, map, length, Option, Some, None, refl, sym, ap, ◌∙◌, subst, arith, inr, append_assoc}
+use Rattle.std.specs.Prelude.{min, find, unwrap_or, Result, Ok, Err}
+use Rattle.std.specs.List.{All, Contains, filter}
 use Rattle.std.proofs.Math.Nat.{min-eq_left}
 use Rattle.std.proofs.lemmas.Int.{ints}
 use Rattle.std.proofs.lemmas.Grind.{flat_map-append}
-use Rattle.std.proofs.lemmas.Bool.{cases_Bool, true≢false}
 use Rattle.std.proofs.lemmas.List.Elements.{All-nil, All-cons, All-head, All-tail, All-weaker, All-append, filter_passes}
 use Rattle.lean_fixed.specs.Moments.{first_moment, last_moment}
 use Rattle.lean_fixed.specs.Ranges.{IsWindow}
@@ -13,20 +12,18 @@ use Rattle.lean_fixed.specs.declared.resolution.Resolution.{Resolution}
 use Rattle.lean_fixed.specs.declared.time.Window.{Window}
 use Rattle.lean_io.specs.Told.{Files}
 use Rattle.lean_items.specs.declared.arrival.Arrival.{Arrival}
-use Rattle.lean_items.specs.declared.bad.Bad.{Bad as BadLine}
 use Rattle.lean_items.specs.declared.feed_key.FeedKey.{FeedKey}
 use Rattle.lean_items.specs.declared.feed_no.FeedNo.{FeedNo}
 use Rattle.lean_items.specs.declared.item.Item.{Item}
 use Rattle.lean_items.specs.declared.item.Item.TheVariants.{Bar, Coarse, Bad, Faulted as FailedRead, End}
 use Rattle.lean_items.specs.Fits.{fits}
 use Rattle.lean_items.specs.Given.{end_of}
-use Rattle.lean_items.specs.Taken.{Feeds, Taken, AllFollow}
+use Rattle.lean_items.specs.Taken.{Feeds, AllFollow}
 use Rattle.exchange_hours.specs.Entries.{Entries}
 use Rattle.clock_feeds.specs.Slices.{Source, slice, refused}
-use Rattle.clock_steps.specs.Runs.{IsFrontOf}
 use Rattle.clock_feeds.proofs.FeedLemmas.{last_small}
 use Rattle.frontier_sync.specs.Heads.{arrival, stops, EndsFrom, EndsAfter}
-use Rattle.frontier_sync.specs.Slices.{ends_at, given_of, given_here, slice_of, Refilled, IsSliced, taken_all, MovesOn}
+use Rattle.frontier_sync.specs.Slices.{ends_at, given_of, given_here, slice_of, IsSliced, taken_all, MovesOn}
 use Rattle.frontier_sync.specs.Stands.{HeadsStand, IsTaken}
 use Rattle.frontier_sync.proofs.StandLemmas.{none-found, head-found, sound-heads, all-taken, all-front, all-step, all-later, all-quiet}
 use Rattle.report_pages.specs.declared.pages.Stop.{Stop}
@@ -36,7 +33,7 @@ use Rattle.session_tape.specs.declared.ending.Ending.{Ending}
 use Rattle.session_tape.specs.declared.ending.Ending.TheVariants.{Whole, Refused, Faulted}
 use Rattle.session_tape.specs.Session.{SessionBar, Refusal, session_line, session_text, session_sources, session}
 use Rattle.session_tape.specs.Shown.{shown}
-use Rattle.session_tape.specs.Walked.{keys_of, AreFeeds, HasFaulted, EndsSo, IsWalked, HasWalked, IfFaulted, IsEnding}
+use Rattle.session_tape.specs.Walked.{keys_of, AreFeeds, HasFaulted, HasWalked, IfFaulted, IsEnding}
 use Rattle.session_tape.proofs.ListLemmas.{are_lists, all_bars, refused_same, shown_slice, first_none, slice_short, InFile, due_in_file}
 use Rattle.session_tape.proofs.StopLemmas.{none_due, first_due}
 use Rattle.session_tape.proofs.RunLemmas.{SoFar, IsQuiet, so_far_start, so_far_next, so_far_end, so_far_stop, so_far_whole, so_far_front}

@@ -1,5 +1,5 @@
 //! The lines of the bars that end at a minute.
-ghost use Rattle.std.specs.Prelude.{◌≡◌, ℕ, ◌+◌, ◌≤◌, ◌++◌, pos, true, length, option_to_list, slice_get, unsigned_abs, take, IfOk, OnOk, OnErr, IfErr};
+ghost use Rattle.std.specs.Prelude.{◌≡◌, ℕ, ◌+◌, ◌≤◌, ◌++◌, pos, true, length, option_to_list, unsigned_abs, IfOk, OnOk, OnErr, IfErr};
 ghost use Rattle.std.specs.List.{All};
 ghost use Rattle.lean_fixed.specs.Printed.{moment_text};
 ghost use Rattle.lean_fixed.specs.Ranges.{last_printed_moment};

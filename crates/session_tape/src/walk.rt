@@ -1,5 +1,5 @@
 //! From one end to the next.
-ghost use Rattle.std.specs.Prelude.{◌≡◌, ℕ, ◌+◌, ◌≤◌, ◌<◌, pos, true, List, Option, length, IfErr};
+ghost use Rattle.std.specs.Prelude.{◌≡◌, ℕ, ◌+◌, ◌≤◌, ◌<◌, pos, true, List, length, IfErr};
 ghost use Rattle.std.specs.List.{All};
 ghost use Rattle.lean_fixed.specs.Moments.{first_moment, last_moment};
 ghost use Rattle.lean_fixed.specs.Ranges.{IsWindow};

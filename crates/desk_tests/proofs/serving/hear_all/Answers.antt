@@ -1,5 +1,5 @@
 -- One more reply was heard.
-use Rattle.std.proofs.Common.{◌≡◌, ◌+◌, false, ◌||◌, List, [], ◌∷◌, ◌++◌, refl, sym, ap, subst, ◌∙◌, append_assoc}
+use Rattle.std.proofs.Common.{◌≡◌, false, ◌||◌, [], ◌∷◌, ◌++◌, subst, ◌∙◌, append_assoc}
 use Rattle.desk_tests.specs.Calls.{replies_of}
 use Rattle.desk_tests.proofs.CallLemmas.{replies-push, ticketed-push, answered-push, keeps}
 use Rattle.desk_tests.proofs.serving.hear_all.Goals as goal

@@ -1,9 +1,8 @@
 -- The replies of two phases are those of the book, each by itself.
-use Rattle.std.proofs.Common.{◌≡◌, ◌+◌, ◌≤◌, List, [], ◌∷◌, ◌++◌, length, refl, sym, ap, subst, ◌∙◌, append-nil, length-append, arith}
+use Rattle.std.proofs.Common.{◌≡◌, ◌+◌, [], subst, arith}
 use Rattle.clock_book.specs.Fitting.{IsFitting}
-use Rattle.clock_book.specs.Handled.{after, replies}
 use Rattle.order_desk.specs.Served.{dones}
-use Rattle.desk_tests.specs.Calls.{orders_of, replies_of, ticketed}
+use Rattle.desk_tests.specs.Calls.{replies_of, ticketed}
 use Rattle.desk_tests.proofs.CallLemmas.{orders-append, all-first, all-last, not_starved, tickets-both}
 use Rattle.desk_tests.proofs.PhaseLemmas.{early-is, late-is}
 use Rattle.desk_tests.proofs.serving.serve.Goals as goal

@@ -1,9 +1,6 @@
 -- One more command was submitted.
-use Rattle.std.proofs.Common.{◌≡◌, ◌+◌, ◌≤◌, List, [], ◌∷◌, ◌++◌, length, refl, sym, ap, subst, ◌∙◌, append_assoc, append-nil, length-append, arith, rules}
+use Rattle.std.proofs.Common.{◌≡◌, [], ◌∷◌, ◌++◌, length, sym, ap, subst, ◌∙◌, append_assoc, length-append, arith}
 use Rattle.std.specs.Vec.Iter.{into_iter_items}
-use Rattle.lean_orders.specs.declared.desk.Command.{Command}
-use Rattle.clock_book.specs.Fitting.{HasRoom}
-use Rattle.desk_tests.specs.Calls.{orders_of}
 use Rattle.desk_tests.proofs.CallLemmas.{room-next, orders-push}
 use Rattle.desk_tests.proofs.serving.submit_all.Goals as goal
 

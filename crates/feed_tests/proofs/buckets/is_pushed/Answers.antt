@@ -1,7 +1,6 @@
 -- Each test that passed is a part of what is owed.
-use Rattle.std.proofs.Common.{◌≡◌, ◌≤ℤ◌, ◌<ℤ◌, arith, subst}
+use Rattle.std.proofs.Common.{◌≤ℤ◌, arith, subst}
 use Rattle.std.proofs.lemmas.Int.{ints}
-use Rattle.consolidators.specs.Buckets.{bucket_end, bucket_of}
 use Rattle.feed_tests.proofs.buckets.is_pushed.Goals as goal
 
 pub returns : goal.returns

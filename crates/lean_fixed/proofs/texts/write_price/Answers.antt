@@ -1,4 +1,4 @@
-use Rattle.std.proofs.Common.{◌≡◌, ◌+◌, ◌-◌, arith, rules, FitsSigned, w64, to_z-of_z, unsigned_abs}
+use Rattle.std.proofs.Common.{◌≡◌, ◌+◌, ◌-◌, arith, rules, FitsSigned, w64, to_z-of_z}
 use Rattle.lean_fixed.proofs.PrintedLemmas.{money_of_parts, length-money_of_parts, length-price_dollars}
 use Rattle.lean_fixed.proofs.texts.write_price.Goals as goal
 

@@ -1,7 +1,7 @@
 -- Step by step, until a head ends the tape or none is left.
-use Rattle.std.proofs.Common.{◌≡◌, ◌+◌, ◌<◌, ◌≤◌, ◌∙◌, rules, arith, refl, sym, subst, length}
+use Rattle.std.proofs.Common.{◌+◌, ◌<◌, ◌≤◌, arith, sym, subst}
 use Rattle.lean_fixed.specs.Calendar.{last_day}
-use Rattle.lean_top.specs.Steps.{AllAhead, AllPast, IsFirstStop}
+use Rattle.lean_top.specs.Steps.{AllAhead, AllPast}
 use Rattle.report_pages.proofs.PrintedLemmas.{on_err}
 use Rattle.lean_top.proofs.Walking.{walked-start, walked-more, walked-front, walked-end, walked-stop}
 use Rattle.lean_top.proofs.daily_tape.print_rows.Goals as goal

@@ -1,7 +1,6 @@
 -- A head that stands at the step is printed, and one that does not is past it.
-use Rattle.std.proofs.Common.{rules, subst}
+use Rattle.std.proofs.Common.{rules}
 use Rattle.lean_top.specs.Head.{StandsPast}
-use Rattle.lean_top.specs.Source.{Follows}
 use Rattle.lean_top.proofs.FollowLemmas.{follows-past}
 use Rattle.lean_top.proofs.daily_tape.print_source.Goals as goal
 

@@ -1,5 +1,5 @@
 -- One more hand is given back.
-use Rattle.std.proofs.Common.{◌≡◌, ◌≤◌, ◌∙◌, ◌++◌, ◌∷◌, [], arith, rules}
+use Rattle.std.proofs.Common.{◌≡◌, ◌∙◌, ◌++◌, ◌∷◌, [], arith, rules}
 use Rattle.lean_io.specs.Counts.{raised}
 use Rattle.line_source.specs.Reader.{hand_of}
 use Rattle.lean_top.proofs.SourceLemmas.{given-more}

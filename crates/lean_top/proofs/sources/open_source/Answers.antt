@@ -1,5 +1,5 @@
 -- What the file says is all still to come.
-use Rattle.std.proofs.Common.{◌≡◌, ◌∙◌, ap, sym, subst, Some}
+use Rattle.std.proofs.Common.{◌≡◌, ◌∙◌, subst, Some}
 use Rattle.std.specs.Prelude.{option_map}
 use Rattle.line_source.specs.Lines.{lines}
 use Rattle.lean_top.specs.DailyFile.{daily_path, file_sheet}

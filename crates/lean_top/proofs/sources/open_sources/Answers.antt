@@ -1,12 +1,11 @@
 -- One more security is opened behind the others.
-use Rattle.std.proofs.Common.{◌≡◌, ◌+◌, ◌≤◌, ◌∙◌, ◌++◌, ◌∷◌, [], ap, sym, subst, arith, rules, take, length, length-append, List, ℕ}
+use Rattle.std.proofs.Common.{◌≡◌, ◌+◌, ◌≤◌, ◌∙◌, ◌++◌, ◌∷◌, [], ap, sym, subst, arith, rules, take, length, length-append}
 use Rattle.std.specs.Prelude.{vec_capacity}
-use Rattle.std.specs.List.{AllByRecursion, AllZip}
+use Rattle.std.specs.List.{AllZip}
 use Rattle.std.proofs.lemmas.List.{take_more, take_all, map-append}
 use Rattle.lean_top.specs.DailyTape.{security, securities}
 use Rattle.lean_top.specs.Head.{StandsPast}
 use Rattle.lean_top.specs.Source.{IsSound, Follows}
-use Rattle.lean_top.specs.Steps.{AllPast}
 use Rattle.lean_top.proofs.NextLemmas.{all-append}
 use Rattle.lean_top.proofs.SourceLemmas.{zip_push}
 use Rattle.lean_top.proofs.sources.open_sources.Goals as goal

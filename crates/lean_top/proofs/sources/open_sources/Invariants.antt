@@ -1,4 +1,4 @@
-use Rattle.std.proofs.Common.{◌≡◌, ℕ, ◌≤◌, Some, take, length}
+use Rattle.std.proofs.Common.{◌≡◌, ◌≤◌, Some, take, length}
 use Rattle.std.specs.Prelude.{vec_capacity}
 use Rattle.std.specs.List.{AllByRecursion, AllZip}
 use Rattle.lean_io.specs.Told.{Files}

@@ -1,5 +1,4 @@
 -- The malformed line is one of the only file.
-use Rattle.std.proofs.Common.{arith}
 use Rattle.lean_top.proofs.Reporting.{bad_line_at}
 use Rattle.lean_top.proofs.tape.append_stop.Goals as goal
 

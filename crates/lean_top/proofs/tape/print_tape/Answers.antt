@@ -1,5 +1,5 @@
 -- The rows, the last line and the last flush one after another.
-use Rattle.std.proofs.Common.{◌≡◌, [], refl, subst, sym}
+use Rattle.std.proofs.Common.{[], subst}
 use Rattle.report_pages.proofs.PrintedLemmas.{on_err}
 use Rattle.lean_top.proofs.Reporting.{report_of, taken_whole, front_of_rows, front_of_last}
 use Rattle.lean_top.specs.DailyTape.{tape_text}

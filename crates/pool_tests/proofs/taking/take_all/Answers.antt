@@ -1,5 +1,5 @@
 -- What `finish` says of every feed, at the one feed that was added.
-use Rattle.std.proofs.Common.{◌≡◌, ℕ, Some, refl, ap, ◌∙◌}
+use Rattle.std.proofs.Common.{◌∙◌}
 use Rattle.lean_items.specs.Taken.{Taken}
 use Rattle.pool_tests.specs.Each.{only}
 use Rattle.pool_tests.proofs.EachLemmas.{only-here}

@@ -1,6 +1,5 @@
 -- One more item was taken.
-use Rattle.std.proofs.Common.{◌≡◌, ◌++◌, ◌∷◌, [], sym, ap, ◌∙◌, rules, true}
-use Rattle.std.specs.Prelude.{not}
+use Rattle.std.proofs.Common.{◌≡◌, ◌++◌, ◌∷◌, [], sym, rules, true}
 use Rattle.lean_items.specs.Given.{is_last}
 use Rattle.pool_tests.proofs.TookLemmas.{Took, took-none, took-more}
 use Rattle.pool_tests.proofs.taking.take_feed.Goals as goal

@@ -5,7 +5,7 @@ use Rattle.lean_fixed.specs.Moments.{first_moment}
 use Rattle.frontier_sync.specs.Heads.{arrival, ends_past, AreOpen}
 use Rattle.frontier_sync.specs.Stands.{HeadsStand}
 use Rattle.session_tape.specs.Walked.{keys_of}
-use Rattle.session_tape.proofs.OpenLemmas.{put_last, numbered_more, open_more, later_more, Opened, opened_none, opened_more}
+use Rattle.session_tape.proofs.OpenLemmas.{put_last, numbered_more, open_more, later_more, Opened, opened_more}
 use Rattle.session_tape.proofs.WalkLemmas.{AreNumbered, AllFrom}
 use Rattle.session_tape.proofs.feeds.open_feeds.Goals as goal
 

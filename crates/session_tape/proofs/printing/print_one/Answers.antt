@@ -1,5 +1,5 @@
 -- A feed with another number has no symbol.
-use Rattle.std.proofs.Common.{rules, ◌≡◌, None, slice_get, sym, ap, subst}
+use Rattle.std.proofs.Common.{rules, ◌≡◌, None, slice_get, sym, subst}
 use Rattle.std.specs.Option.{option_to_list}
 use Rattle.std.proofs.lemmas.Option.{slice_get_past}
 use Rattle.report_pages.specs.Printed.{IsPrinted}

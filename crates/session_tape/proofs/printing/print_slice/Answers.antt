@@ -1,4 +1,4 @@
-use Rattle.std.proofs.Common.{rules, ◌<◌, length, arith}
+use Rattle.std.proofs.Common.{arith}
 use Rattle.report_pages.proofs.PrintedLemmas.{on_err}
 use Rattle.session_tape.proofs.PrintLemmas.{printing_more, printing_front}
 use Rattle.session_tape.proofs.printing.print_slice.Goals as goal

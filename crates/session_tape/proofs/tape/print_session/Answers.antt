@@ -1,5 +1,5 @@
 -- What was taken follows the lists, now that the pool is finished.
-use Rattle.std.proofs.Common.{◌≡◌, List, [], ◌++◌, Some, Ok, subst, sym, ◌∙◌}
+use Rattle.std.proofs.Common.{◌++◌, Ok, subst, ◌∙◌}
 use Rattle.report_pages.specs.Printed.{IsFront}
 use Rattle.report_pages.proofs.PrintedLemmas.{on_err-map}
 use Rattle.session_tape.specs.Session.{session_sources, session, session_text}

@@ -1,7 +1,7 @@
-use Rattle.std.proofs.Common.{◌≡◌, ℕ, ◌+◌, ◌<◌, ◌≤◌, pos, true, List, ◌++◌, Some, None, length, refl, sym, ap, ◌∙◌, subst, arith}
+use Rattle.std.proofs.Common.{◌≡◌, ◌+◌, ◌<◌, ◌≤◌, pos, true, ◌++◌, Some, None, length, refl, sym, ap, ◌∙◌, subst, arith}
 use Rattle.std.specs.Prelude.{find}
 use Rattle.std.specs.List.{All}
-use Rattle.lean_fixed.specs.Moments.{first_moment, last_moment}
+use Rattle.lean_fixed.specs.Moments.{first_moment}
 use Rattle.lean_items.specs.declared.arrival.Arrival.{Arrival}
 use Rattle.frontier_sync.specs.Heads.{stops}
 use Rattle.frontier_sync.specs.Slices.{ends_at, slice_of, IsSliced}

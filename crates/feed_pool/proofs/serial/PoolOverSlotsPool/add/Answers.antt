@@ -1,12 +1,8 @@
 -- A feed was added whose list is that of its key, and nothing is taken of it.
-use Rattle.std.proofs.Common.{◌≡◌, ◌∷◌, [], ◌++◌, ◌∙◌, List, length, Some, ap, sym, subst, rules}
+use Rattle.std.proofs.Common.{◌≡◌, ◌∷◌, [], ◌++◌, ◌∙◌, length, Some, subst, rules}
 use Rattle.std.specs.Arc.{arc_value}
 use Rattle.lean_io.specs.Told.{Files}
-use Rattle.lean_items.specs.declared.feed_key.FeedKey.{FeedKey}
-use Rattle.lean_items.specs.declared.item.Item.{Item}
-use Rattle.lean_items.specs.Taken.{added_to}
 use Rattle.feed_pool.specs.Lists.{list_of, lists_of}
-use Rattle.feed_pool.specs.Running.{Stands}
 use Rattle.feed_pool.proofs.RunLemmas.{stands-added, told-list}
 use Rattle.feed_pool.proofs.serial.PoolOverSlotsPool.add.Goals as goal
 

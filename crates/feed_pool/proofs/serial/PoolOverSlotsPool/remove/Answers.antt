@@ -1,10 +1,10 @@
 -- The hand of the feed was given back.
-use Rattle.std.proofs.Common.{◌≡◌, ◌≤◌, ◌<◌, ◌∙◌, get_or, set, length, None, Some, ap, sym, subst, arith}
+use Rattle.std.proofs.Common.{◌≡◌, ◌≤◌, ◌<◌, ◌∙◌, get_or, length, None, Some, ap, sym, subst, arith}
 use Rattle.std.proofs.lemmas.List.{get_or_read}
 use Rattle.std.specs.Arc.{arc_value}
 use Rattle.lean_fixed.specs.Counts.{raised}
 use Rattle.feed_pool.specs.Lists.{lists_of}
-use Rattle.feed_pool.specs.Running.{Stands, counted}
+use Rattle.feed_pool.specs.Running.{counted}
 use Rattle.feed_pool.proofs.RunLemmas.{stands-removed}
 use Rattle.feed_pool.proofs.serial.PoolOverSlotsPool.remove.Goals as goal
 

@@ -1,5 +1,5 @@
 -- One more item was taken of a feed.
-use Rattle.std.proofs.Common.{◌≡◌, ◌<◌, get_or, length, None, sym, subst}
+use Rattle.std.proofs.Common.{◌<◌, get_or, length, None, subst}
 use Rattle.std.proofs.lemmas.List.{get_or_read}
 use Rattle.std.specs.Arc.{arc_value}
 use Rattle.feed_pool.specs.Lists.{lists_of}

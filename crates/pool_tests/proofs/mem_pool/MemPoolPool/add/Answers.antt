@@ -1,5 +1,5 @@
 -- Of a feed that was added nothing is taken, and its place is the first.
-use Rattle.std.proofs.Common.{◌≡◌, ◌++◌, ◌∷◌, [], length, Some, refl, subst, arith, rules}
+use Rattle.std.proofs.Common.{◌≡◌, ◌++◌, ◌∷◌, [], length, Some, refl, rules}
 use Rattle.pool_tests.specs.Places.{Standing, first_place}
 use Rattle.pool_tests.specs.Scripts.{items_of}
 use Rattle.pool_tests.proofs.EachLemmas.{each-added}

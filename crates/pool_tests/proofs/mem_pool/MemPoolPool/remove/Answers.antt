@@ -1,5 +1,5 @@
 use Rattle.pool_tests.proofs.EachLemmas.{each-set}
-use Rattle.pool_tests.proofs.StandLemmas.{stand-later, stand-removed}
+use Rattle.pool_tests.proofs.StandLemmas.{stand-removed}
 use Rattle.pool_tests.specs.Scripts.{items_of}
 use Rattle.pool_tests.specs.Places.{Standing}
 use Rattle.std.proofs.Common.{None, arith, get_or}

@@ -1,7 +1,6 @@
 -- One more item was taken of a feed.
 use Rattle.std.proofs.Common.{◌≡◌, ◌<◌, get_or, length, Some, None, sym, ◌∙◌, subst, arith}
 use Rattle.std.proofs.lemmas.List.{get_or_read}
-use Rattle.lean_items.specs.declared.item.Item.TheVariants.{End}
 use Rattle.pool_tests.specs.Places.{Standing, place_behind}
 use Rattle.pool_tests.specs.Scripts.{items_of}
 use Rattle.pool_tests.proofs.EachLemmas.{each-taken}
