@@ -158,7 +158,9 @@ impl Course {
         self.bad(number, Reason::Many)
     }
 
-    /// A malformed line of the open file.
+    /// A malformed line of the open file. It ends the feed, and stays out of the way of the rows.
+    #[cold]
+    #[inline(never)]
     pub(crate) fn bad(&self, number: u32, reason: Reason) -> Item
         ensures { result ≡ bad_item self.now.file number reason }
     {
