@@ -158,6 +158,7 @@ tape SPY AAPL, spy:7;1 aapl:7;2 = 3 20131007 SPY 167.2000 168.0000 167.0000 167.
 tape SPY AAPL, spy:7;8;1 aapl:7;2 = 3 20131007 SPY 167.2000 168.0000 167.0000 167.5000 1234;20131007 AAPL 167.2000 168.0000 167.0000 167.5000 1234;data equity/usa/daily/aapl.csv line 2 fields;
 tape SPY AAPL, spy:7; aapl:;1 = 3 data equity/usa/daily/aapl.csv line 2 fields;
 tape SPY, spy:8;7; = 3 20131008 SPY 167.5000 167.6000 165.0000 165.2000 2000;data equity/usa/daily/spy.csv line 2 order;
+tape SPY, spy:7;7;8; = 3 20131007 SPY 167.2000 168.0000 167.0000 167.5000 1234;data equity/usa/daily/spy.csv line 2 order;
 tape, spy:7; = 1 usage;
 tape spy, spy:7; = 1 usage;
 tape SPY SPY, spy:7; = 1 usage;

@@ -64,6 +64,7 @@ pub(crate) fn walk<P: Pool, S: Sink>(
     let mut slice = Vec::new(alloc);
     let mut front = Vec::new(alloc);
     let mut rows: u64 = 0;
+    // Up to this minute all is printed. Only the invariant and the measure of the loop read it.
     let mut at = first_minute(window);
     'minutes: loop {
         match heads.stop() {
