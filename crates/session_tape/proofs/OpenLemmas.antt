@@ -164,7 +164,7 @@ module _ (resolution : Resolution) (window : Window) where
   -- one symbol more
   pub opened_more : (is_window : IsWindow window) (old added new : Start → Feeds → Type 0) (before : Start) (heads : List Arrival) (symbols : List (List ℕ)) (symbol : List ℕ) (feed : FeedNo)
       (passed : List Item) (item : Item) → Opened old before heads symbols
-      → ((b : ℕ) (feeds : Feeds) → old b feeds → added b (added_to feeds (session_key resolution window symbol) (Ok feed)))
+      → ((b : Start) (feeds : Feeds) → old b feeds → added b (added_to feeds (session_key resolution window symbol) (Ok feed)))
       → TakesOfOne added new feed.0 (passed ++ item ∷ []) → All (λ x. ends_past (pos first) x ≡ false) passed → ends_past (pos first) item ≡ true
       → feed.0 ≡ length symbols → AreNumbered (length symbols) heads → Opened new before (heads ++ arrival feed item ∷ []) (symbols ++ symbol ∷ [])
   opened_more is_window old added new before heads symbols symbol feed passed item o adds takes none past number numbered =
