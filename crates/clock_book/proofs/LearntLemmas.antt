@@ -5,6 +5,7 @@ use Rattle.std.specs.Option.{option_map_or}
 use Rattle.std.specs.List.{fold, filter_map, cons_option}
 use Rattle.std.proofs.lemmas.List.{map-append}
 use Rattle.std.proofs.lemmas.List.Sums.{fold-append}
+use Rattle.lean_fixed.specs.Ranges.{is_price}
 use Rattle.lean_fixed.specs.declared.money.Price.{Price}
 use Rattle.lean_fixed.specs.declared.time.Moment.{Moment}
 use Rattle.exchange_hours.specs.Sessions.{is_open_at}
@@ -25,7 +26,7 @@ use Rattle.lean_orders.specs.declared.desk.Command.{Command}
 use Rattle.lean_orders.specs.declared.desk.Command.TheVariants as command
 use Rattle.portfolio.specs.Sums as sums
 use Rattle.clock_book.specs.Books.{Book, price_mark, price_marks, price_of, order_of, is_live, bar_to_try}
-use Rattle.clock_book.specs.Submits.{is_price, has_price, next_id, order_for, submit_cause}
+use Rattle.clock_book.specs.Submits.{has_price, next_id, order_for, submit_cause}
 use Rattle.clock_book.specs.Matches.{bar_of, is_set_off, set_off, fill_on, after_trigger, matched, in_state, after_match, filled_event, match_event}
 use Rattle.clock_book.specs.Handled.{Handled, refused_submit, resting_submit, market_submit, accepted_submit, priced_submit, judged_submit, handled_match, at_price, replaced, updated_order, update_found, canceled_order, cancel_found, handled, after, replies, refused, done, said, with_orders}
 use Rattle.clock_book.specs.Seen.{resting_of, live_of, Seen, seen_of, without_id, learnt, given_out, AreNumbered}

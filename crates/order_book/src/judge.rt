@@ -2,12 +2,12 @@
 ghost use Rattle.std.specs.Prelude.{◌≡◌, true, IfSome};
 ghost use Rattle.std.specs.Bool.{OnTrue, OnFalse};
 ghost use Rattle.lean_fixed.specs.Ranges.{IsPrice, IsQuantity};
-ghost use Rattle.clock_book.specs.Submits.{is_quantity, is_price, is_priced, is_unpriced, has_price, has_limit};
+ghost use Rattle.clock_book.specs.Submits.{is_quantity, is_priced, is_unpriced, has_price, has_limit};
 
 use crate::book::Book;
 use crate::orders::{has_limit, has_price};
 use buying_power::{Power, allows};
-use lean_fixed::ranges::{MOST_PRICE, MOST_QUANTITY};
+use lean_fixed::ranges::MOST_QUANTITY;
 use lean_fixed::{Money, Price, Shares};
 use lean_orders::{Cause, Request};
 
@@ -83,14 +83,6 @@ fn is_quantity(quantity: Shares) -> bool
     quantity.0 != 0 && quantity.0.unsigned_abs() <= MOST_QUANTITY as u64
 }
 
-// Whether an order may have this price.
-pub(crate) fn is_price(price: Price) -> bool
-    ensures value { result ≡ is_price price.0 }
-    ensures range { OnTrue result (IsPrice price.0) }
-{
-    1 <= price.0 && price.0 <= MOST_PRICE
-}
-
 // Whether a price that the request's kind wants is missing or out of range.
 fn is_unpriced(request: &Request) -> bool
     ensures value { result ≡ is_unpriced request.now }
@@ -108,7 +100,7 @@ fn is_priced(price: Option<Price>) -> bool
     ensures range { OnTrue result (IfSome price (λ price. IsPrice price.0)) }
 {
     match price {
-        Some(price) => is_price(price),
+        Some(price) => price.is_in_range(),
         None => false,
     }
 }

@@ -3,6 +3,7 @@ use Rattle.std.proofs.Common.{◌≡◌, ℕ, ◌+◌, ◌≤◌, ℤ, Bool, tru
 use Rattle.std.specs.List.{filter_map, cons_option}
 use Rattle.std.specs.Option.{option_map}
 use Rattle.std.proofs.lemmas.List.{length-map}
+use Rattle.lean_fixed.specs.Ranges.{is_price}
 use Rattle.lean_fixed.specs.declared.money.Price.{Price}
 use Rattle.lean_fixed.specs.declared.time.Moment.{Moment}
 use Rattle.lean_orders.specs.declared.desk.Reply.{Reply}
@@ -18,7 +19,7 @@ use Rattle.lean_orders.specs.declared.event.Cause.TheVariants.{Quantity, NoPrice
 use Rattle.lean_orders.specs.declared.order.OrderState.TheVariants.{Canceled}
 use Rattle.lean_orders.specs.declared.event.Fill.{Fill}
 use Rattle.clock_book.specs.Books.{Book, price_of, order_of, is_live}
-use Rattle.clock_book.specs.Submits.{is_quantity, is_price, has_price, is_unpriced, cause_at_price}
+use Rattle.clock_book.specs.Submits.{is_quantity, has_price, is_unpriced, cause_at_price}
 use Rattle.clock_book.specs.Matches.{in_state, matched, filled_event, match_event, match_events}
 use Rattle.clock_book.specs.Handled.{Handled, handled, done, with_orders, market_submit, resting_submit, accepted_submit, priced_submit, judged_submit, update_found, cancel_found, at_price, replaced}
 use Rattle.order_desk.specs.Served.{is_done, dones}
