@@ -13,7 +13,7 @@ use Rattle.lean_orders.specs.declared.order.OrderState.TheVariants.{Filled}
 use Rattle.portfolio.specs.Stands as accounts
 use Rattle.portfolio.specs.Sums.{Mark}
 use Rattle.portfolio.specs.Symbols.{same_symbol}
-use Rattle.clock_book.specs.Books.{BarMark, Book, price_mark, price_marks, last_real_bar, bar_to_try, is_live}
+use Rattle.clock_book.specs.Books.{BarMark, Book, price_mark, price_marks, last_real_bar, is_live}
 use Rattle.clock_book.specs.Handled.{with_mark}
 use Rattle.clock_book.specs.Matches.{bar_of, set_off, fill_on, after_trigger, matched, after_match, match_event, in_state, filled_event, book_after_match}
 use Rattle.order_book.specs.Filling.{Trial, bar_kept, trial, after_try, said_of}

@@ -17,7 +17,6 @@ use Rattle.lean_orders.specs.declared.order.Order.{Order}
 use Rattle.portfolio.specs.Account.{held}
 use Rattle.portfolio.specs.Stands.{StandsFor}
 use Rattle.lean_orders.specs.declared.order.OrderState.TheVariants.{Filled}
-use Rattle.clock_book.specs.Books.{is_live}
 use Rattle.clock_book.specs.Matches.{set_off, fill_on, in_state, filled_event}
 use Rattle.order_book.specs.declared.ledger.Ledger.{Ledger}
 use Rattle.order_book.specs.Filling.{Trial, trial, after_try, said_of}
