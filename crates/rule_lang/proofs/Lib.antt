@@ -1,5 +1,4 @@
 pub mod Runs
-pub mod Fronts
 pub mod Scanned
 pub mod Chains
 pub mod Numbers
