@@ -2,6 +2,5 @@ pub mod Runs
 pub mod Scanned
 pub mod Chains
 pub mod Numbers
-pub mod Typed
 pub mod OverCloses
 pub mod Added
