@@ -1,7 +1,6 @@
 -- The bars up to a moment grow by the bar that ends then.
 use Rattle.std.proofs.Common.{◌≡◌, ℕ, zero, suc, ◌+◌, ◌<◌, ◌≤◌, List, [], ◌∷◌, ◌++◌, refl, sym, ap, ◌∙◌, subst, arith, inl, inr, append-nil}
-use Rattle.std.specs.Prelude.{Option, Some, None, ◌==◌, find, flat_map, true, option_to_list}
-use Rattle.std.specs.List.{range_with_len}
+use Rattle.std.specs.Prelude.{Option, Some, None, ◌==◌, find, true, option_to_list}
 use Rattle.std.proofs.lemmas.Bool.{cases_lt}
 use Rattle.std.proofs.lemmas.Bool.Decides.{nat_tests}
 use Rattle.lean_items.specs.declared.bar.Bar.{Bar}

@@ -1,5 +1,5 @@
 -- What is known of the feed of any key by a moment, and what its list tells of it.
-use Rattle.std.proofs.Common.{◌≡◌, ℕ, zero, suc, ◌+◌, ◌-◌, ◌<◌, ◌≤◌, ℤ, pos, negsuc, ◌≤ℤ◌, List, [], ◌∷◌, ◌++◌, Bool, true, refl, sym, ap, ap₂, ◌∙◌, subst, arith, inl, inr, map}
+use Rattle.std.proofs.Common.{◌≡◌, ℕ, zero, suc, ◌+◌, ◌-◌, ◌<◌, ◌≤◌, ℤ, pos, negsuc, ◌≤ℤ◌, List, [], ◌∷◌, ◌++◌, refl, sym, ap, ap₂, ◌∙◌, subst, arith, inl, inr, map}
 use Rattle.std.specs.Prelude.{Option, Some, None, ◌&&◌, nat_le, find, if◌then◌else◌, option_to_list}
 use Rattle.std.specs.List.{list_all}
 use Rattle.std.proofs.lemmas.Int.{ints}
@@ -22,15 +22,15 @@ use Rattle.feed_paths.specs.Files.{from_1970}
 use Rattle.clock_feeds.specs.Kept.{Kept}
 use Rattle.clock_feeds.specs.Bars.{Filling, end_of, ends_at, bar_at}
 use Rattle.clock_feeds.specs.Feeds.{last_item, items_from, coarse_item, coarse_items, bars_of, coarse_of, filling_of, feed_of}
-use Rattle.clock_feeds.specs.Slices.{Source, source, coarse_at}
+use Rattle.clock_feeds.specs.Slices.{source}
 use Rattle.clock_feeds.specs.Stands.{EndBy}
 use Rattle.clock_feeds.specs.Known.{bars_by, coarse_blocked, feed_bars_of, feed_blocked_of}
-use Rattle.clock_feeds.specs.Lists.{StopsInFile, IsInFile, IsOfKind, bars_ending, rows_ending, is_by, stop_in, blocked_in}
+use Rattle.clock_feeds.specs.Lists.{StopsInFile, IsInFile, IsOfKind, bars_ending, is_by, stop_in, blocked_in}
 use Rattle.clock_feeds.proofs.SearchLemmas.{Each}
 use Rattle.clock_feeds.proofs.ListLemmas.{begins, items_past}
 use Rattle.clock_feeds.proofs.SliceLemmas.{bars_told, bar_early, none_listed, blocked_told}
 use Rattle.clock_feeds.proofs.CutLemmas.{sound_end}
-use Rattle.clock_feeds.proofs.FeedLemmas.{kept_are, coarse_told}
+use Rattle.clock_feeds.proofs.FeedLemmas.{kept_are}
 use Rattle.clock_feeds.proofs.FileLemmas.{bars_stop, rows_stop}
 use Rattle.clock_feeds.proofs.GrowLemmas as grown
 

@@ -1,13 +1,12 @@
 -- Each bar of a security is one of the grid of its resolution.
-use Rattle.std.proofs.Common.{◌≡◌, ℕ, zero, suc, ◌+◌, ◌*◌, ◌/◌, ◌%◌, ◌<◌, ◌≤◌, ℤ, pos, int_lt, List, [], ◌∷◌, ◌++◌, Bool, true, false, refl, sym, ap, ◌∙◌, subst, arith, inl, inr, map}
-use Rattle.std.specs.Prelude.{Option, Some, None, Result, Ok, Err, ◌&&◌, not, nat_le, unsigned_abs, if◌then◌else◌, filter_map, flat_map, option_to_list}
+use Rattle.std.proofs.Common.{◌≡◌, ℕ, ◌+◌, ◌*◌, ◌/◌, ◌%◌, ◌<◌, ◌≤◌, ℤ, pos, int_lt, List, [], ◌∷◌, Bool, true, false, refl, sym, ap, ◌∙◌, subst, arith, inl, inr, map}
+use Rattle.std.specs.Prelude.{Option, Some, None, Result, Ok, Err, ◌&&◌, not, nat_le, unsigned_abs, if◌then◌else◌, filter_map, flat_map}
 use Rattle.std.specs.List.{cons_option}
 use Rattle.std.proofs.lemmas.Bool.{and_parts, and_from, cases_lt}
 use Rattle.std.proofs.lemmas.Nat.{div-add-mod'}
 use Rattle.std.proofs.Math.Nat.{mod-lt, mul_assoc}
 use Rattle.lean_fixed.specs.Fields.{fields}
-use Rattle.lean_fixed.specs.Moments.{midnight, day_of, minute_of_day}
-use Rattle.lean_fixed.specs.Ranges.{IsWindow}
+use Rattle.lean_fixed.specs.Moments.{day_of, minute_of_day}
 use Rattle.lean_fixed.specs.declared.resolution.Resolution.{Resolution}
 use Rattle.lean_fixed.specs.declared.resolution.Resolution.TheVariants.{Minute, Hour, Daily}
 use Rattle.lean_fixed.specs.declared.time.Window.{Window}
@@ -21,7 +20,6 @@ use Rattle.lean_items.specs.declared.reason.Reason.TheVariants.{Order}
 use Rattle.line_source.specs.Lines.{lines}
 use Rattle.equity_csv.specs.declared.row.Row.{Row}
 use Rattle.equity_csv.specs.Rows.{minute_row, dated_row, minute_start, dated_start}
-use Rattle.equity_csv.specs.Written.{minute_of_row}
 use Rattle.equity_csv.proofs.SaidLemmas.{Said, said, dated-whole, daily-midnight}
 use Rattle.exchange_hours.specs.Entries.{Entries}
 use Rattle.exchange_hours.specs.Sessions.{LieInDays}
@@ -32,9 +30,9 @@ use Rattle.feed_paths.specs.Paths.{path_of}
 use Rattle.clock_feeds.specs.Entries.{Entry, checked, row_before, in_order, entries}
 use Rattle.clock_feeds.specs.Raw.{Raw, Timed, timed_says, raw_of, file_entries, equity_row, starts_after, equity_entries, start_of as start_of_row, equity_end, equity_raw}
 use Rattle.clock_feeds.specs.Kept.{Kept, cut_at, cut, is_past, bar_of, kept_bar_at, kept_bar}
-use Rattle.clock_feeds.specs.Bars.{Filling, end_of, ends_at, is_over, fills_at, filled, bar_at}
+use Rattle.clock_feeds.specs.Bars.{Filling, end_of, ends_at, is_over, fills_at, bar_at}
 use Rattle.clock_feeds.specs.Feeds.{bars_of, filling_of}
-use Rattle.clock_feeds.specs.Slices.{Source, source}
+use Rattle.clock_feeds.specs.Slices.{source}
 use Rattle.clock_feeds.specs.Stands.{EndBy}
 use Rattle.clock_feeds.specs.Known.{bars_by}
 use Rattle.clock_feeds.specs.Grid.{start_of, IsOnGrid, HoldsWhole, LiesInPeriod}

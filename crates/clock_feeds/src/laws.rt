@@ -194,7 +194,7 @@ pub fn lists_tell_feeds()
         → key.kind ≡ Equity symbol resolution
         → bars_ending t (feed files hours window key)
         ≡ option_to_list (bar_at (filling_of hours window key resolution)
-            (bars_of files hours window key symbol resolution) t) }
+        (bars_of files hours window key symbol resolution) t) }
     ensures rows { (files : Files) (hours : Entries) (window : Window) (key : FeedKey) (t : ℕ)
         → key.kind ≡ Coarse
         → rows_ending t (feed files hours window key) ≡ coarse_at (coarse_of files hours window key) t }
