@@ -4,3 +4,4 @@ pub mod Turns
 pub mod SoFar
 pub mod Heard
 pub mod Between
+pub mod Rising

@@ -1,5 +1,6 @@
 -- What is owed of a bar that is pushed, and what the bar of a bucket keeps to.
-use Rattle.std.specs.Prelude.{◌≡◌, ℕ, ◌<◌, ◌≤◌, ℤ, pos, ◌+ℤ◌, ◌-ℤ◌, ◌*ℤ◌, ◌≤ℤ◌, ◌<ℤ◌}
+use Rattle.std.specs.Prelude.{◌≡◌, ℕ, ◌<◌, ◌≤◌, ℤ, pos, ◌+ℤ◌, ◌-ℤ◌, ◌*ℤ◌, ◌≤ℤ◌, ◌<ℤ◌, List, All}
+use Rattle.std.specs.List.{AllPairs}
 use Rattle.lean_fixed.specs.Ranges.{IsMoment, IsPrice, IsVolume, IsSumOfVolumes, most_volume}
 use Rattle.lean_items.specs.declared.bar.Bar.{Bar}
 use Rattle.consolidators.specs.Buckets.{bucket_start, bucket_end, bucket_of}
@@ -22,6 +23,11 @@ pub record IsPushed (period : ℕ) (bar : Bar) : Type 0 where
   pub within : bar.end.0 ≤ℤ bucket_end period (bucket_of period bar)
   pub prices : ArePrices bar
   pub volume : IsVolume bar.volume.0
+
+-- bars that may be pushed one after the other: none starts before one before it ended
+pub record ArePushed (period : ℕ) (bars : List Bar) : Type 0 where
+  pub each : All (IsPushed period) bars
+  pub order : AllPairs (λ earlier bar. earlier.end.0 ≤ℤ bar.start.0) bars
 
 -- the numbers of a bar that is given
 pub record IsGiven (period : ℕ) (bar : Bar) : Type 0 where

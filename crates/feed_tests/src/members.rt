@@ -9,7 +9,9 @@ use universe_state::{ChooseRefusal, Universe};
 
 // SPY is listed, AAA is chosen on the first day and BBB on the second; AAA leaves and comes back.
 const CALLS: &str = "\
+count = 0
 list SPY 1 = done
+count = 1
 feed SPY = 1
 feed AAA = none
 choose AAA SPY = AAA
@@ -18,6 +20,7 @@ marked SPY = false
 marked AAA = false
 choose BBB = BBB
 join BBB 3 = done
+count = 3
 marked SPY = false
 marked AAA = true
 marked BBB = false
@@ -27,6 +30,7 @@ marked AAA = false
 choose BBB BBB CCC CCC = CCC
 marked AAA = true
 leave AAA = done
+count = 2
 feed AAA = none
 marked AAA = false
 leave AAA = done
@@ -64,6 +68,9 @@ fn called(alloc: Global, universe: &mut Universe, call: &str) -> Result<String, 
             symbols.push(symbol_of(word)?)?;
         }
         return chosen(alloc, universe, &symbols);
+    }
+    if name == "count" {
+        return Ok(format!(in alloc; "{}", universe.len())?);
     }
     let symbol = symbol_of(words.next().ok_or("no symbol")?)?;
     if name == "marked" {
