@@ -1,3 +1,4 @@
+pub mod InRange
 pub mod Minutes
 pub mod Numbers
 pub mod Turns

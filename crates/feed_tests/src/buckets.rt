@@ -1,10 +1,10 @@
-use crate::cases::answered;
 use consolidators::{Consolidator, Given};
 use lean_fixed::{Moment, Price, Shares};
 use lean_items::Bar;
 use std::alloc::Global;
 use std::fmt::Write;
 use std::test::Fail;
+use test_cases::cases::check;
 
 // A period, and bars of start, end, opening, high, low, closing and volume; with ~ before it a bar is filled forward.
 // What each of them gives, where it is taken, and what is left.
@@ -143,12 +143,10 @@ fn lasts(alloc: Global, input: &str) -> Result<String, Fail> {
 
 #[test]
 fn gives_the_bars_of_buckets(rt: HostRuntime) -> Result<(), Fail> {
-    assert_eq!(rt; answered(rt.alloc(), CASES, consolidated)?.as_str(), CASES);
-    Ok(())
+    check(rt.alloc(), CASES, consolidated)
 }
 
 #[test]
 fn tells_the_last_bar_given(rt: HostRuntime) -> Result<(), Fail> {
-    assert_eq!(rt; answered(rt.alloc(), LASTS, lasts)?.as_str(), LASTS);
-    Ok(())
+    check(rt.alloc(), LASTS, lasts)
 }

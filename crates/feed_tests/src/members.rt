@@ -1,10 +1,9 @@
-use crate::cases::none;
 use crate::selection::spelled;
 use lean_fixed::Symbol;
 use lean_items::FeedNo;
 use std::alloc::Global;
-use std::fmt::Write;
 use std::test::Fail;
+use test_cases::cases::{compare, none, parts_of};
 use universe_state::{ChooseRefusal, Universe};
 
 // SPY is listed, AAA is chosen on the first day and BBB on the second; AAA leaves and comes back.
@@ -98,13 +97,11 @@ fn called(alloc: Global, universe: &mut Universe, call: &str) -> Result<String, 
 #[test]
 fn keeps_the_active_securities(rt: HostRuntime) -> Result<(), Fail> {
     let mut universe = Universe::new(rt.alloc());
-    let mut text = String::new(rt.alloc());
     for line in CALLS.lines() {
-        let (call, _) = line.split_once(" = ").ok_or("no answer")?;
+        let (call, wanted) = parts_of(line)?;
         let answer = called(rt.alloc(), &mut universe, call)?;
-        writeln!(text, "{call} = {answer}")?;
+        compare(rt.alloc(), call, &answer, wanted)?;
     }
-    assert_eq!(rt; text.as_str(), CALLS);
     Ok(())
 }
 

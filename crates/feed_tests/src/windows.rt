@@ -1,12 +1,12 @@
 ghost use Rattle.std.specs.Prelude.{◌≡◌, length, true, All};
 ghost use Rattle.bar_windows.specs.Kept.{IsLength};
 
-use crate::cases::answered;
 use bar_windows::{Func, WindowSpec, Windows};
 use lean_fixed::Price;
 use std::alloc::Global;
 use std::fmt::Write;
 use std::test::Fail;
+use test_cases::cases::check;
 
 // Functions with their lengths, and closes: the values after each close.
 const CASES: &str = "\
@@ -148,12 +148,10 @@ fn long_values(alloc: Global, input: &str) -> Result<String, Fail> {
 
 #[test]
 fn gives_values_over_the_last_closes(rt: HostRuntime) -> Result<(), Fail> {
-    assert_eq!(rt; answered(rt.alloc(), CASES, values)?.as_str(), CASES);
-    Ok(())
+    check(rt.alloc(), CASES, values)
 }
 
 #[test]
 fn gives_values_of_the_longest_windows(rt: HostRuntime) -> Result<(), Fail> {
-    assert_eq!(rt; answered(rt.alloc(), LONG, long_values)?.as_str(), LONG);
-    Ok(())
+    check(rt.alloc(), LONG, long_values)
 }
