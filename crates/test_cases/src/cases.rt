@@ -4,12 +4,12 @@ use std::alloc::Global;
 use std::test::Fail;
 
 /// What stands before and behind the sign of a case.
-pub(crate) fn parts_of(case: &str) -> Result<(&str, &str), Fail> {
+pub fn parts_of(case: &str) -> Result<(&str, &str), Fail> {
     Ok(case.split_once(" = ").ok_or("a case without an answer")?)
 }
 
 /// That an answer is the one that is wanted.
-pub(crate) fn compare(alloc: Global, input: &str, answer: &str, wanted: &str) -> Result<(), Fail> {
+pub fn compare(alloc: Global, input: &str, answer: &str, wanted: &str) -> Result<(), Fail> {
     if answer == wanted {
         return Ok(());
     }
@@ -17,7 +17,7 @@ pub(crate) fn compare(alloc: Global, input: &str, answer: &str, wanted: &str) ->
 }
 
 /// That a call answers the inputs of all cases as they say.
-pub(crate) fn check<F: Fn(Global, &str) -> Result<String, Fail>>(
+pub fn check<F: Fn(Global, &str) -> Result<String, Fail>>(
     alloc: Global,
     cases: &str,
     answer: F,
@@ -33,6 +33,6 @@ pub(crate) fn check<F: Fn(Global, &str) -> Result<String, Fail>>(
 }
 
 /// The answer of a call that has none.
-pub(crate) fn none(alloc: Global) -> Result<String, Fail> {
+pub fn none(alloc: Global) -> Result<String, Fail> {
     Ok(String::from_str(alloc, "none")?)
 }
