@@ -1,0 +1,6 @@
+pub mod Chains
+pub mod Days
+pub mod Holds
+pub mod Lengths
+pub mod PlanHolds
+pub mod TextLemmas

@@ -10,7 +10,7 @@ use Rattle.universe_rules.specs.declared.rule.UniverseRule.{UniverseRule}
 use Rattle.rule_lang.specs.declared.fault.Want.{Want}
 use Rattle.rule_lang.specs.declared.fault.Want.TheVariants.{Truth, Number}
 use Rattle.rule_lang.specs.Tree.{Tree}
-use Rattle.rule_lang.specs.Kinds.{kind_of, misfits}
+use Rattle.rule_lang.specs.Kinds.{kind_of}
 use Rattle.rule_strategy.specs.declared.plan.Plan.{Plan}
 use Rattle.rule_strategy.specs.declared.rule.Rule.{Rule}
 use Rattle.rule_strategy.specs.declared.rule.Action.{Action}
@@ -55,25 +55,24 @@ abbrev pub IsUniverseIf : Option UniversePlan → Type 0
 IsUniverseIf None = Unit {0}
 IsUniverseIf (Some universe) = IsUniverse universe
 
--- an expression of the kind that is wanted, whose operators have operands of their kinds
-pub record IsTyped (want : Want) (tree : Tree) : Type 0 where
-  pub kind : kind_of tree ≡ want
-  pub operands : misfits tree ≡ []
+-- an expression of the kind that is wanted
+abbrev pub IsOf : Want → Tree → Type 0
+IsOf want tree = kind_of tree ≡ want
 
 -- a number where one is taken, and none where it is not
 abbrev pub IsNumberIf : Bool → Option Tree → Type 0
-IsNumberIf true (Some tree) = IsTyped Number tree
+IsNumberIf true (Some tree) = IsOf Number tree
 IsNumberIf false None = Unit {0}
 IsNumberIf _ _ = ⊥
 
 abbrev pub IsAction : Action → Type 0
 IsAction (act.Order kind quantity price limit) =
-    IsTyped Number quantity × IsNumberIf (rests_at_price kind) price × IsNumberIf (has_limit kind) limit
-IsAction (act.Update price) = IsTyped Number price
+    IsOf Number quantity × IsNumberIf (rests_at_price kind) price × IsNumberIf (has_limit kind) limit
+IsAction (act.Update price) = IsOf Number price
 IsAction act.Cancel = Unit {0}
 
 pub record IsRule (rule : Rule) : Type 0 where
-  pub when : IsTyped Truth rule.when
+  pub when : IsOf Truth rule.when
   pub action : IsAction rule.action
 
 pub record IsPlan (plan : Plan) : Type 0 where

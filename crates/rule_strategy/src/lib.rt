@@ -19,7 +19,7 @@ mod universe;
 mod values;
 mod worked;
 
-pub use asking::RuleView;
+pub use asking::{RuleView, requests};
 pub use fault::{Part, PlanFault};
 pub use key::KeyText;
 pub use lists::{Rules, Securities};
