@@ -10,3 +10,4 @@ pub mod Rules
 pub mod PlanFile
 pub mod Validity
 pub mod Asked
+pub mod Worked

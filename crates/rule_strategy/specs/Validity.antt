@@ -9,8 +9,7 @@ use Rattle.trade_costs.specs.Fees.{IsCosts}
 use Rattle.universe_rules.specs.declared.rule.UniverseRule.{UniverseRule}
 use Rattle.rule_lang.specs.declared.fault.Want.{Want}
 use Rattle.rule_lang.specs.declared.fault.Want.TheVariants.{Truth, Number}
-use Rattle.rule_lang.specs.Tree.{Tree}
-use Rattle.rule_lang.specs.Kinds.{kind_of}
+use Rattle.rule_lang.specs.Tree.{Tree, kind_of}
 use Rattle.rule_strategy.specs.declared.plan.Plan.{Plan}
 use Rattle.rule_strategy.specs.declared.rule.Rule.{Rule}
 use Rattle.rule_strategy.specs.declared.rule.Action.{Action}
