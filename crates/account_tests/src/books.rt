@@ -3,7 +3,7 @@ ghost use Rattle.lean_fixed.specs.Ranges.{IsMoment, IsStartingCash};
 ghost use Rattle.trade_costs.specs.Fees.{IsCosts};
 ghost use Rattle.clock_book.specs.Fitting.{IsFitting, IsPriceBar};
 
-use crate::cases::{answered, number, price, symbol, within};
+use crate::cases::{number, price, symbol, within};
 use exchange_hours::Hours;
 use lean_fixed::{Moment, Money, NoMemory, Price, Shares, Symbol, laws};
 use lean_orders::{Cause, Command, Kind, OrderEvent, PriceBar, Reply, Request, What};
@@ -13,6 +13,7 @@ use std::fmt::Write;
 use std::str;
 use std::sync::Arc;
 use std::test::Fail;
+use test_cases::cases::check;
 use trade_costs::Costs;
 
 // Monday to Friday, 09:30 to 16:00.
@@ -328,15 +329,10 @@ fn replies_by(alloc: Global, book: Book, text: &str) -> Result<String, Fail> {
 
 #[test]
 fn books(rt: HostRuntime) -> Result<(), Fail> {
-    assert_eq!(rt; answered(rt.alloc(), BOOKS, replies_of)?.as_str(), BOOKS);
-    Ok(())
+    check(rt.alloc(), BOOKS, replies_of)
 }
 
 #[test]
 fn free_books(rt: HostRuntime) -> Result<(), Fail> {
-    assert_eq!(rt;
-        answered(rt.alloc(), FREE_BOOKS, free_replies_of)?.as_str(),
-        FREE_BOOKS
-    );
-    Ok(())
+    check(rt.alloc(), FREE_BOOKS, free_replies_of)
 }
