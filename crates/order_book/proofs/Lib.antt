@@ -1,5 +1,6 @@
 pub mod OrderLemmas
 pub mod KeptLemmas
+pub mod PlaceLemmas
 pub mod BarLemmas
 pub mod TriesLemmas
 pub mod StandsLemmas

@@ -7,7 +7,7 @@ use Rattle.std.proofs.lemmas.Option.{none-some, same_Some}
 use Rattle.lean_orders.specs.declared.order.Order.{Order}
 use Rattle.clock_book.specs.Books.{is_live}
 use Rattle.clock_book.specs.Handled.{replaced}
-use Rattle.order_book.specs.Resting.{Name, lives, is_live_at, is_filled, filled_count}
+use Rattle.order_book.specs.Resting.{Name, is_filled, filled_count}
 use Rattle.clock_book.specs.Seen.{AreNumbered}
 
 -- ---- ids
@@ -94,53 +94,7 @@ replaced_set n (suc k) (x ∷ xs) o h e =
     ap (λ b. cond b o x ∷ replaced xs o) (less_differs x.id o.id (omega (arith, h.0, e)))
     ∙ ap (λ ys. x ∷ ys) (replaced_set (n + 1) k xs o h.1 (omega (arith, e)))
 
--- ---- the places of the live ones
-
-pub name_push_live : (n : ℕ) (places : List ℕ) (xs : List Order) (o : Order) → Name lives n places xs → Name lives n (places ++ (n + length xs) ∷ []) (xs ++ o ∷ [])
-name_push_live n places [] o h =
-    let e : n + 0 ≡ n = omega arith in
-    inl ([], ap (λ ps. ps ++ (n + 0) ∷ []) h ∙ ap (λ p. p ∷ []) e, refl)
-name_push_live n places (x ∷ xs) o h =
-    let e : n + 1 + length xs ≡ n + suc (length xs) = omega arith in
-    elim h [
-      | inl (rest, is, later) ↦
-          inl (
-            rest ++ (n + suc (length xs)) ∷ [],
-            ap (λ ps. ps ++ (n + suc (length xs)) ∷ []) is,
-            subst (λ p. Name lives (n + 1) (rest ++ p ∷ []) (xs ++ o ∷ [])) e (name_push_live (n + 1) rest xs o later),
-          )
-      | inr (dead, later) ↦ inr (dead, subst (λ p. Name lives (n + 1) (places ++ p ∷ []) (xs ++ o ∷ [])) e (name_push_live (n + 1) places xs o later))
-    ]
-
-pub name_push_dead : (n : ℕ) (places : List ℕ) (xs : List Order) (o : Order) → is_live o.state ≡ false → Name lives n places xs → Name lives n places (xs ++ o ∷ [])
-name_push_dead n places [] o dead h = inr (dead, h)
-name_push_dead n places (x ∷ xs) o dead h =
-    elim h [
-      | inl (rest, is, later) ↦ inl (rest, is, name_push_dead (n + 1) rest xs o dead later)
-      | inr (old, later) ↦ inr (old, name_push_dead (n + 1) places xs o dead later)
-    ]
-
-pub name_push : (n : ℕ) (places : List ℕ) (xs : List Order) (o : Order) (place : ℕ) → place ≡ n + length xs → Name lives n places xs
-    → Name lives n (places ++ cond (is_live o.state) (place ∷ []) []) (xs ++ o ∷ [])
-name_push n places xs o place is h = by (is_live o.state) refl
-  where
-    by : (b : Bool) → is_live o.state ≡ b → Name lives n (places ++ cond b (place ∷ []) []) (xs ++ o ∷ [])
-    by true live = subst (λ p. Name lives n (places ++ p ∷ []) (xs ++ o ∷ [])) (sym is) (name_push_live n places xs o h)
-    by false dead = subst (λ ps. Name lives n ps (xs ++ o ∷ [])) (sym (append-nil places)) (name_push_dead n places xs o dead h)
-
-pub name_set : (n k : ℕ) (places : List ℕ) (xs : List Order) (old o : Order) → slice_get xs k ≡ Some old
-    → (is_live old.state ≡ false → is_live o.state ≡ false) → Name lives n places xs → Name lives n places (set xs k o)
-name_set n k places [] old o at dead h = h
-name_set n zero places (x ∷ xs) old o at dead h =
-    elim h [
-      | inl (rest, is, later) ↦ inl (rest, is, later)
-      | inr (was, later) ↦ inr (dead (ap (λ (y : Order). is_live y.state) (sym (same_Some x old at)) ∙ was), later)
-    ]
-name_set n (suc k) places (x ∷ xs) old o at dead h =
-    elim h [
-      | inl (rest, is, later) ↦ inl (rest, is, name_set (n + 1) k rest xs old o at dead later)
-      | inr (was, later) ↦ inr (was, name_set (n + 1) k places xs old o at dead later)
-    ]
+-- ---- the orders that places name
 
 -- none of them meets a test
 abbrev pub AreOut : (Order → Bool) → List Order → Type 0
@@ -194,40 +148,9 @@ none_named test n (x ∷ xs) h =
       | inr (out, later) ↦ (out, none_named test (n + 1) xs later)
     ]
 
--- places of orders that are not live may go
-live_here : (front : List Order) (x : Order) (back : List Order) → is_live_at (front ++ x ∷ back) (length front) ≡ is_live x.state
-live_here [] x back = refl
-live_here (f ∷ front) x back = live_here front x back
-
 pub joined : (front : List Order) (x : Order) (back : List Order) → (front ++ x ∷ []) ++ back ≡ front ++ x ∷ back
 joined [] x back = refl
 joined (f ∷ front) x back = ap (λ ys. f ∷ ys) (joined front x back)
-
-pushed_length : (front : List Order) (x : Order) → length (front ++ x ∷ []) ≡ length front + 1
-pushed_length [] x = refl
-pushed_length (f ∷ front) x = omega (arith, pushed_length front x)
-
-kept_here : (n : ℕ) (places rest : List ℕ) (test : ℕ → Bool) (b : Bool) → places ≡ n ∷ rest → test n ≡ b → filter test places ≡ cond b (n ∷ filter test rest) (filter test rest)
-kept_here n places rest test b is here = ap (filter test) is ∙ ap (λ t. cond t (n ∷ filter test rest) (filter test rest)) here
-
-name_kept : (n : ℕ) (places rest : List ℕ) (test : ℕ → Bool) (x : Order) (back : List Order) (b : Bool) → is_live x.state ≡ b → places ≡ n ∷ rest → test n ≡ b
-    → Name lives (n + 1) (filter test rest) back → Name lives n (filter test places) (x ∷ back)
-name_kept n places rest test x back true lives is here later = inl (filter test rest, kept_here n places rest test true is here, later)
-name_kept n places rest test x back false dead is here later =
-    inr (dead, subst (λ ps. Name lives (n + 1) ps back) (sym (kept_here n places rest test false is here)) later)
-
-pub name_filter : (n : ℕ) (places : List ℕ) (whole front back : List Order) → whole ≡ front ++ back → length front ≡ n → Name lives n places back
-    → Name lives n (filter (is_live_at whole) places) back
-name_filter n places whole front [] parts size h = ap (filter (is_live_at whole)) h
-name_filter n places whole front (x ∷ back) parts size h =
-    let after : whole ≡ (front ++ x ∷ []) ++ back = parts ∙ sym (joined front x back) in
-    let longer : length (front ++ x ∷ []) ≡ n + 1 = omega (arith, pushed_length front x, size) in
-    let here : is_live_at whole n ≡ is_live x.state = ap (λ ys. is_live_at ys n) parts ∙ ap (is_live_at (front ++ x ∷ back)) (sym size) ∙ live_here front x back in
-    elim h [
-      | inl (rest, is, later) ↦
-          name_kept n places rest (is_live_at whole) x back (is_live x.state) refl is here (name_filter (n + 1) rest whole (front ++ x ∷ []) back after longer later)
-      | inr (dead, later) ↦ inr (dead, name_filter (n + 1) places whole (front ++ x ∷ []) back after longer later)
-    ]
 
 -- ---- how many were filled
 

@@ -1,6 +1,6 @@
 -- What a command does, put together.
 use Rattle.std.proofs.Common.{◌≡◌, ℕ, ◌+◌, ◌≤◌, ◌==◌, Bool, true, false, cond, ◌&&◌, List, [], ◌∷◌, ◌++◌, length, map, Option, Some, None, Result, Ok, Err, refl, sym, ap, subst, ◌∙◌, arith, append-nil}
-use Rattle.std.specs.Prelude.{ℤ, OnOk, if◌then◌else◌}
+use Rattle.std.specs.Prelude.{ℤ, OnOk, OnErr, if◌then◌else◌}
 use Rattle.std.specs.List.{find, filter_map, All}
 use Rattle.std.specs.Map.{lookup}
 use Rattle.std.proofs.lemmas.List.{append_assoc, length-append, length_push, length-map}
@@ -42,6 +42,10 @@ use Rattle.order_book.proofs.StandsLemmas.{trial_of, stands_changed, stands_mark
 pub on_ok : {A E : Type 0} (r : Result A E) {P Q : Type 0} → (P → Q) → OnOk r P → OnOk r Q
 on_ok (Ok a) f h = f h
 on_ok (Err e) f h = tt
+
+pub on_err : {A E : Type 0} (r : Result A E) {P Q : Type 0} → (P → Q) → OnErr r P → OnErr r Q
+on_err (Ok a) f h = tt
+on_err (Err e) f h = f h
 
 -- ---- an order of an id
 

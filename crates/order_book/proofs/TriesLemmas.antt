@@ -1,6 +1,6 @@
 -- A match, order after order.
-use Rattle.std.proofs.Common.{◌≡◌, ℕ, ◌+◌, ◌<◌, false, List, [], ◌∷◌, ◌++◌, length, map, drop, set, get_or, Bool, Option, Some, None, refl, sym, ap, subst, ◌∙◌, arith, append-nil}
-use Rattle.std.specs.Prelude.{is_some, if◌then◌else◌, option_map, option_and_then}
+use Rattle.std.proofs.Common.{◌≡◌, ℕ, ◌+◌, ◌<◌, true, false, ◌&&◌, List, [], ◌∷◌, ◌++◌, length, map, drop, set, get_or, Bool, Option, Some, None, refl, sym, ap, subst, ◌∙◌, ◌⊎◌, inl, inr, arith, append-nil, true≢false}
+use Rattle.std.specs.Prelude.{is_some, not, ◌||◌, if◌then◌else◌, option_map, option_and_then}
 use Rattle.std.specs.Option.{option_map_or}
 use Rattle.std.specs.List.{filter_map, cons_option}
 use Rattle.std.proofs.lemmas.List.{map-append, append_assoc, length-append, length-map, get_or_at, set_at, drop_more}
@@ -17,10 +17,12 @@ use Rattle.lean_orders.specs.declared.order.Order.{Order}
 use Rattle.portfolio.specs.Account.{held}
 use Rattle.portfolio.specs.Stands.{StandsFor}
 use Rattle.lean_orders.specs.declared.order.OrderState.TheVariants.{Filled}
-use Rattle.clock_book.specs.Matches.{set_off, fill_on, in_state, filled_event}
+use Rattle.clock_book.specs.Matches.{is_set_off, set_off, fill_on, in_state, filled_event}
 use Rattle.order_book.specs.declared.ledger.Ledger.{Ledger}
 use Rattle.order_book.specs.Filling.{Trial, trial, after_try, said_of}
-use Rattle.order_book.specs.Resting.{Name, lives}
+use Rattle.clock_book.specs.Books.{is_live}
+use Rattle.order_book.specs.Resting.{Name}
+use Rattle.order_book.specs.Due.{is_due}
 use Rattle.order_book.specs.Tries.{HasFills, Tries}
 use Rattle.order_book.proofs.OrderLemmas.{AreOut, Named, next_named, none_named, joined}
 
@@ -69,9 +71,9 @@ map_more f done skipped o same =
 pub tries_one : (trial : Trial) (at : Moment) (front back : List Order) (o order : Order) (place : ℕ) (found : Fill) (first last : Ledger) (before after : List Reply)
     → first.orders.items ≡ front ++ o ∷ back → length front ≡ place → order ≡ get_or first.orders.items place order → trial.fill order ≡ Some found
     → last.orders.items ≡ set first.orders.items place (in_state Filled (trial.first order)) → last.fills.items ≡ first.fills.items ++ found ∷ []
-    → last.live.items ≡ first.live.items → HasFills (found ∷ []) first.portfolio last.portfolio → held last.portfolio ≡ held first.portfolio
+    → HasFills (found ∷ []) first.portfolio last.portfolio → held last.portfolio ≡ held first.portfolio
     → after ≡ before ++ filled_event at order found ∷ [] → Tries trial at front (o ∷ []) back first last before after
-tries_one trial at front back o order place found first last before after split size read fills orders more live account same said =
+tries_one trial at front back o order place found first last before after split size read fills orders more account same said =
     let is : order ≡ o = read ∙ ap (λ xs. get_or xs place order) split ∙ get_or_at front o back order place size in
     let fills_o : trial.fill o ≡ Some found = ap trial.fill (sym is) ∙ fills in
     let given : filter_map trial.fill (o ∷ []) ≡ found ∷ [] = ap (λ f. cons_option f []) fills_o in
@@ -84,7 +86,6 @@ tries_one trial at front back o order place found first last before after split 
       fills = more ∙ ap (λ fs. first.fills.items ++ fs) (sym given);
       account = subst (λ fs. HasFills fs first.portfolio last.portfolio) (sym given) account;
       held = same;
-      live = live;
       replies = said ∙ ap (λ x. before ++ filled_event at x found ∷ []) is ∙ ap (λ rs. before ++ rs) (sym told);
     }
 
@@ -92,8 +93,8 @@ tries_one trial at front back o order place found first last before after split 
 pub tries_first : (trial : Trial) (at : Moment) (front back : List Order) (o order : Order) (place : ℕ) (first last : Ledger) (said : List Reply)
     → first.orders.items ≡ front ++ o ∷ back → length front ≡ place → order ≡ get_or first.orders.items place order → trial.fill order ≡ None
     → last.orders.items ≡ set first.orders.items place (trial.first order) → last.fills.items ≡ first.fills.items
-    → last.live.items ≡ first.live.items → last.portfolio ≡ first.portfolio → Tries trial at front (o ∷ []) back first last said said
-tries_first trial at front back o order place first last said split size read none orders fills live account =
+    → last.portfolio ≡ first.portfolio → Tries trial at front (o ∷ []) back first last said said
+tries_first trial at front back o order place first last said split size read none orders fills account =
     let is : order ≡ o = read ∙ ap (λ xs. get_or xs place order) split ∙ get_or_at front o back order place size in
     let none_o : trial.fill o ≡ None = ap trial.fill (sym is) ∙ none in
     let given : filter_map trial.fill (o ∷ []) ≡ [] = ap (λ f. cons_option f []) none_o in
@@ -108,7 +109,6 @@ tries_first trial at front back o order place first last said split size read no
           subst (λ a. StandsFor a start (earlier ++ filter_map trial.fill (o ∷ [])) marks) (sym account)
           (subst (λ fs. StandsFor first.portfolio start fs marks) (sym (append-nil earlier) ∙ ap (λ fs. earlier ++ fs) (sym given)) stands);
       held = ap held account;
-      live = live;
       replies = sym (append-nil said) ∙ ap (λ rs. said ++ rs) (sym told);
     }
 
@@ -126,7 +126,6 @@ tries_more trial test at passes done skipped o later first middle last before be
       (given_more trial.fill earlier done skipped o (out_none test trial.fill passes.none skipped out))
       (two.account start (earlier ++ filter_map trial.fill done) marks (one.account start earlier marks stands));
   held = two.held ∙ one.held;
-  live = two.live ∙ one.live;
   replies =
       two.replies ∙ ap (λ ys. ys ++ filter_map (said_of trial at) (o ∷ [])) one.replies
       ∙ given_more (said_of trial at) before done skipped o (out_none test (said_of trial at) (says_none trial test at passes) skipped out);
@@ -144,7 +143,6 @@ tries_end trial test at passes whole done rest first last before after split tri
           (given_end trial.fill earlier done rest (out_none test trial.fill passes.none rest out))
           (tries.account start earlier marks stands);
       held = tries.held;
-      live = tries.live;
       replies = tries.replies ∙ given_end (said_of trial at) before done rest (out_none test (said_of trial at) (says_none trial test at passes) rest out);
     })
 
@@ -221,13 +219,41 @@ tried_all trial test at passes places first now before after i none tried =
 pub next_within : (now : Ledger) (place : ℕ) → Next now place → place < length now.orders.items
 next_within now place next = omega (arith, ap length next.split, length-append next.front (next.order ∷ next.back), next.place_is)
 
-pub drop_here : (old now : List ℕ) (i place : ℕ) → now ≡ old → place ≡ get_or now i place → i < length old → drop i old ≡ place ∷ drop (i + 1) old
-drop_here old now i place same read within =
-    drop_more old i place within ∙ ap (λ p. p ∷ drop (i + 1) old) (ap (λ xs. get_or xs i place) (sym same) ∙ sym read)
+pub drop_here : (ps : List ℕ) (i place : ℕ) → place ≡ get_or ps i place → i < length ps → drop i ps ≡ place ∷ drop (i + 1) ps
+drop_here ps i place read within = drop_more ps i place within ∙ ap (λ p. p ∷ drop (i + 1) ps) (sym read)
 
--- orders that are not live are left as they are
-pub trial_lives : (costs : Costs) (hours : Entries) (bars : List (List ℕ × PriceBar)) → Passes (trial costs hours bars) lives
-trial_lives costs hours bars = record {
-  none = λ o dead. ap (λ b. option_and_then (fill_on costs hours o) (if b then lookup (same_symbol o.symbol) bars else None)) dead;
-  same = λ o dead. ap (λ b. option_map_or (set_off hours o) (if b then lookup (same_symbol o.symbol) bars else None) o) dead;
+-- orders that no bar changes are left as they are
+unfilled : (found : Option Fill) (b : Bool) → (is_some found || b) ≡ false → found ≡ None
+unfilled None b h = refl
+unfilled (Some fill) b h = absurd (true≢false h)
+
+not_set : (found : Option Fill) (b was : Bool) → (is_some found || (b && not was)) ≡ false → (b ≡ false) ⊎ (was ≡ true)
+not_set (Some fill) b was h = absurd (true≢false h)
+not_set None false was h = inl refl
+not_set None true true h = inr refl
+not_set None true false h = absurd (true≢false h)
+
+set_same : (o : Order) (b : Bool) → (b ≡ false) ⊎ (o.triggered ≡ true) → (if b then record o { triggered = true } else o) ≡ o
+set_same o false h = refl
+set_same o true (inl h) = absurd (true≢false h)
+set_same o true (inr h) = ap (λ t. record o { triggered = t }) (sym h)
+
+pub trial_due : (costs : Costs) (hours : Entries) (bars : List (List ℕ × PriceBar)) → Passes (trial costs hours bars) (is_due costs hours bars)
+trial_due costs hours bars = record {
+  none = λ o out. none_by o (is_live o.state) (lookup (same_symbol o.symbol) bars) out;
+  same = λ o out. same_by o (is_live o.state) (lookup (same_symbol o.symbol) bars) out;
 }
+  where
+    none_by : (o : Order) (lives : Bool) (bar : Option PriceBar)
+        → option_map_or (λ bar. lives && (is_some (fill_on costs hours o bar) || (is_set_off hours o bar && not o.triggered))) bar false ≡ false
+        → option_and_then (fill_on costs hours o) (if lives then bar else None) ≡ None
+    none_by o false bar h = refl
+    none_by o true None h = refl
+    none_by o true (Some bar) h = unfilled (fill_on costs hours o bar) (is_set_off hours o bar && not o.triggered) h
+
+    same_by : (o : Order) (lives : Bool) (bar : Option PriceBar)
+        → option_map_or (λ bar. lives && (is_some (fill_on costs hours o bar) || (is_set_off hours o bar && not o.triggered))) bar false ≡ false
+        → option_map_or (set_off hours o) (if lives then bar else None) o ≡ o
+    same_by o false bar h = refl
+    same_by o true None h = refl
+    same_by o true (Some bar) h = set_same o (is_set_off hours o bar) (not_set (fill_on costs hours o bar) (is_set_off hours o bar) o.triggered h)

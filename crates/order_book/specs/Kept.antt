@@ -7,8 +7,7 @@ use Rattle.lean_orders.specs.declared.order.Order.{Order}
 use Rattle.portfolio.specs.Account.{Account}
 use Rattle.trade_costs.specs.declared.costs.Costs.{Costs}
 
--- The costs, leverage and hours; the account; all orders and all fills; the places of the orders that may be live, counted
--- from 0; and of each symbol that was marked by a real bar since the orders were last tried the last such bar.
+-- The costs, leverage and hours; the account; all orders and all fills; and of each symbol that was marked by a real bar since the orders were last tried the last such bar.
 pub record Kept : Type 0 where
   pub costs : Costs
   pub leverage : ℕ
@@ -16,7 +15,6 @@ pub record Kept : Type 0 where
   pub account : Account
   pub orders : List Order
   pub fills : List Fill
-  pub live : List ℕ
   pub bars : List (List ℕ × PriceBar)
 
 -- how many orders were submitted

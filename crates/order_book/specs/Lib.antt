@@ -1,6 +1,8 @@
 pub mod Kept
 pub mod Resting
 pub mod Filling
+pub mod Waiting
+pub mod Due
 pub mod Tries
 pub mod Judged
 pub mod Stands

@@ -15,6 +15,7 @@ use Rattle.clock_book.specs.Books.{is_live}
 use Rattle.clock_book.specs.Fitting.{most_orders}
 use Rattle.clock_book.specs.Seen.{AreNumbered}
 use Rattle.order_book.specs.Kept.{Kept}
+use Rattle.order_book.specs.Waiting.{Waits}
 
 -- Places name those of a test among orders that stand from a place on. They rise, and may name others too.
 abbrev pub Name : (Order → Bool) → ℕ → List ℕ → List Order → Type 0
@@ -22,9 +23,6 @@ Name test n places [] = places ≡ []
 Name test n places (order ∷ later) =
     ((rest : List ℕ) × (places ≡ n ∷ rest) × Name test (n + 1) rest later)
     ⊎ ((test order ≡ false) × Name test (n + 1) places later)
-
-abbrev pub lives : Order → Bool
-lives order = is_live order.state
 
 -- the numbers of an order are in their ranges
 pub record IsRanged (order : Order) : Type 0 where
@@ -70,9 +68,9 @@ pub record IsPriced (bar : PriceBar) : Type 0 where
 abbrev pub ArePriced : List (List ℕ × PriceBar) → Type 0
 ArePriced bars = All (λ entry. IsPriced entry.1) bars
 
-pub record IsKept (kept : Kept) : Type 0 where
+pub record IsKept (kept : Kept) (waiting : List (List ℕ × List ℕ)) : Type 0 where
   pub costs : IsCosts kept.costs
   pub leverage : IsLeverage kept.leverage
   pub orders : AreKept kept.account kept.orders
-  pub live : Name lives 0 kept.live kept.orders
+  pub waits : Waits waiting kept.orders
   pub bars : ArePriced kept.bars

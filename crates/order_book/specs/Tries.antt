@@ -10,12 +10,13 @@ use Rattle.portfolio.specs.Stands.{StandsFor}
 use Rattle.portfolio.specs.Sums.{Mark}
 use Rattle.order_book.specs.declared.ledger.Ledger.{Ledger}
 use Rattle.order_book.specs.Filling.{Trial, after_try, said_of}
-use Rattle.order_book.specs.Resting.{AreKept, Name, lives}
+use Rattle.order_book.specs.Resting.{AreKept}
+use Rattle.order_book.specs.Waiting.{Waits}
 
 -- What holds of a ledger.
 pub record IsLedger (ledger : Ledger) : Type 0 where
   pub orders : AreKept ledger.portfolio ledger.orders.items
-  pub live : Name lives 0 ledger.live.items ledger.orders.items
+  pub waits : Waits ledger.waiting.entries ledger.orders.items
 
 -- an account is that of the same fills and marks
 abbrev pub IsSameAccount : Account → Account → Type 0
@@ -34,5 +35,4 @@ pub record Tries (trial : Trial) (at : Moment) (front tried back : List Order) (
   pub fills : new.fills.items ≡ old.fills.items ++ filter_map trial.fill tried
   pub account : HasFills (filter_map trial.fill tried) old.portfolio new.portfolio
   pub held : held new.portfolio ≡ held old.portfolio
-  pub live : new.live.items ≡ old.live.items
   pub replies : after ≡ before ++ filter_map (said_of trial at) tried

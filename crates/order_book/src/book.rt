@@ -18,6 +18,8 @@ pub struct Book {
     pub(crate) market: Market,
     pub(crate) leverage: u32,
     pub(crate) ledger: Ledger,
+    // The places of the orders that a match changes, by id: room that is used again.
+    due: Vec<u32>,
 }
 
 impl Model for Book {
@@ -34,7 +36,6 @@ impl Model for Book {
       account = b.ledger.portfolio;
       orders = b.ledger.orders.items;
       fills = b.ledger.fills.items;
-      live = b.ledger.live.items;
       bars = b.market.bars.entries;
     } };
 
@@ -45,9 +46,8 @@ impl Model for Book {
       account = b.ledger.portfolio;
       orders = b.ledger.orders.items;
       fills = b.ledger.fills.items;
-      live = b.ledger.live.items;
       bars = b.market.bars.entries;
-    }) };
+    }) b.ledger.waiting.entries };
 }
 
 impl Book {
@@ -84,8 +84,9 @@ impl Book {
                 portfolio: Portfolio::new(alloc, cash),
                 orders: Vec::new(alloc),
                 fills: Vec::new(alloc),
-                live: Vec::new(alloc),
+                waiting: IndexMap::new(alloc),
             },
+            due: Vec::new(alloc),
         }
     }
 
@@ -146,11 +147,11 @@ impl Book {
         ensures kept { OnErr result (self.new ≡ self.old) }
         ensures unsaid { OnErr result (out.new.items ≡ out.old.items) }
     {
-        let most = self.ledger.live.len();
+        self.market.find_due(&mut self.ledger.waiting, &self.ledger.orders, &mut self.due)?;
+        let most = self.due.len();
         out.reserve(most + 1)?;
         self.ledger.fills.reserve(most)?;
-        self.market.try_all(&mut self.ledger, at, out);
-        self.ledger.prune();
+        self.market.try_all(&mut self.ledger, &self.due, at, out);
         self.market.forget();
         say(&[Reply::Done], out);
         Ok(())

@@ -1,9 +1,5 @@
 //! The orders, the fills and the account.
-ghost use Rattle.std.specs.Prelude.{◌≡◌, ◌<◌, [], ◌∷◌, ◌++◌, if◌then◌else◌};
-ghost use Rattle.std.specs.Vec.{vec_len, vec_capacity};
-
-use crate::market::is_live;
-use crate::orders::is_live_at;
+use crate::places::{Waiting, add_place};
 use lean_fixed::{NoMemory, Symbol};
 use lean_orders::{Fill, Order, OrderState};
 use portfolio::Portfolio;
@@ -14,12 +10,12 @@ pub(crate) struct Ledger {
     // The order of an id stands at the place one less than it.
     pub(crate) orders: Vec<Order>,
     pub(crate) fills: Vec<Fill>,
-    // The places of the orders that may be live, rising. Those that are no longer live leave at the next match.
-    pub(crate) live: Vec<u32>,
+    // Those that are no longer live leave at a later match.
+    pub(crate) waiting: Waiting,
 }
 
 impl Ledger {
-    ghost use Rattle.std.specs.Prelude.{◌≡◌, ◌+◌, ◌<◌, ◌==◌, [], ◌∷◌, ◌++◌, true, false, Some, length, set, slice_get, OnOk, OnErr};
+    ghost use Rattle.std.specs.Prelude.{◌≡◌, ◌+◌, ◌<◌, ◌==◌, [], ◌∷◌, ◌++◌, true, false, Some, length, set, slice_get, Contains, OnOk, OnErr};
     ghost use Rattle.std.specs.List.{find};
     ghost use Rattle.std.specs.Vec.{vec_len, vec_capacity};
     ghost use Rattle.lean_orders.specs.declared.order.OrderState.TheVariants.{Filled};
@@ -31,7 +27,8 @@ impl Ledger {
     ghost use Rattle.clock_book.specs.Handled.{replaced};
     ghost use Rattle.clock_book.specs.Matches.{in_state};
     ghost use Rattle.order_book.specs.Tries.{IsLedger, IsSameAccount, HasFills};
-    ghost use Rattle.order_book.specs.Resting.{RestsWhereLive, is_filled, is_live_at};
+    ghost use Rattle.order_book.specs.Resting.{RestsWhereLive, is_filled};
+    ghost use Rattle.order_book.specs.Waiting.{places_of};
     ghost use Rattle.lean_orders.specs.declared.order.Order.{Order};
 
     // Makes room for one more order.
@@ -40,13 +37,46 @@ impl Ledger {
         ensures kept { IsLedger self.new }
         ensures orders { self.new.orders.items ≡ self.old.orders.items }
         ensures fills { self.new.fills.items ≡ self.old.fills.items }
-        ensures live { self.new.live.items ≡ self.old.live.items }
         ensures account { self.new.portfolio ≡ self.old.portfolio }
         ensures room { OnOk result (vec_len self.new.orders < vec_capacity self.new.orders) }
-        ensures places { OnOk result (vec_len self.new.live < vec_capacity self.new.live) }
     {
         self.orders.reserve(1)?;
-        self.live.reserve(1)?;
+        Ok(())
+    }
+
+    // Makes room for one more order of a symbol that may be live.
+    pub(crate) fn reserve_live(&mut self, symbol: Symbol) -> Result<(), NoMemory>
+        requires kept { IsLedger self.old }
+        requires fewer { length self.old.orders.items < most_orders }
+        ensures kept { IsLedger self.new }
+        ensures orders { self.new.orders.items ≡ self.old.orders.items }
+        ensures fills { self.new.fills.items ≡ self.old.fills.items }
+        ensures account { IsSameAccount self.old.portfolio self.new.portfolio }
+        ensures room { OnOk result (vec_len self.new.orders < vec_capacity self.new.orders) }
+        ensures place { OnOk result (Contains (places_of self.new.waiting.entries symbol)
+            (length self.new.orders.items)) }
+        ensures held { OnOk result (is_among symbol (held self.new.portfolio) ≡ true) }
+        ensures err { OnErr result (self.new.portfolio ≡ self.old.portfolio) }
+    {
+        self.reserve_place(symbol)?;
+        self.portfolio.hold(symbol)
+    }
+
+    // Makes room for one more order, whose place is among those of its symbol.
+    fn reserve_place(&mut self, symbol: Symbol) -> Result<(), NoMemory>
+        requires kept { IsLedger self.old }
+        requires fewer { length self.old.orders.items < most_orders }
+        ensures kept { IsLedger self.new }
+        ensures orders { self.new.orders.items ≡ self.old.orders.items }
+        ensures fills { self.new.fills.items ≡ self.old.fills.items }
+        ensures account { self.new.portfolio ≡ self.old.portfolio }
+        ensures room { OnOk result (vec_len self.new.orders < vec_capacity self.new.orders) }
+        ensures place { OnOk result (Contains (places_of self.new.waiting.entries symbol)
+            (length self.new.orders.items)) }
+    {
+        self.reserve()?;
+        let place = self.orders.len() as u32;
+        add_place(&mut self.waiting, symbol, place)?;
         Ok(())
     }
 
@@ -56,10 +86,8 @@ impl Ledger {
         ensures kept { IsLedger self.new }
         ensures orders { self.new.orders.items ≡ self.old.orders.items }
         ensures fills { self.new.fills.items ≡ self.old.fills.items }
-        ensures live { self.new.live.items ≡ self.old.live.items }
         ensures account { IsSameAccount self.old.portfolio self.new.portfolio }
         ensures room { OnOk result (vec_len self.new.orders < vec_capacity self.new.orders) }
-        ensures places { OnOk result (vec_len self.new.live < vec_capacity self.new.live) }
         ensures more { OnOk result (vec_len self.new.fills < vec_capacity self.new.fills) }
         ensures held { OnOk result (is_among symbol (held self.new.portfolio) ≡ true) }
         ensures err { OnErr result (self.new.portfolio ≡ self.old.portfolio) }
@@ -69,22 +97,21 @@ impl Ledger {
         self.portfolio.hold(symbol)
     }
 
-    // Adds an order that is not filled. There is room for it.
+    // Adds an order that is not filled. There is room for it, and its place is among those of its symbol if it is live.
     pub(crate) fn add(&mut self, order: Order)
         requires kept { IsLedger self.old }
         requires fewer { length self.old.orders.items < most_orders }
         requires room { vec_len self.old.orders < vec_capacity self.old.orders }
-        requires places { vec_len self.old.live < vec_capacity self.old.live }
         requires id { order.id ≡ length self.old.orders.items + 1 }
         requires rests { RestsWhereLive (held self.old.portfolio) order }
         requires open { is_filled order.state ≡ false }
+        requires place { is_live order.state ≡ true → Contains (places_of self.old.waiting.entries order.symbol)
+            (length self.old.orders.items) }
         ensures kept { IsLedger self.new }
         ensures orders { self.new.orders.items ≡ self.old.orders.items ++ order ∷ [] }
         ensures fills { self.new.fills.items ≡ self.old.fills.items }
         ensures account { self.new.portfolio ≡ self.old.portfolio }
     {
-        let place = self.orders.len() as u32;
-        name(&mut self.live, place, is_live(order.state));
         self.orders.push_reserved(order);
     }
 
@@ -114,6 +141,7 @@ impl Ledger {
         requires there { slice_get self.old.orders.items place ≡ Some order.now }
         requires lives { is_live order.now.state ≡ true }
         requires id { first.now.id ≡ order.now.id }
+        requires same { first.now.symbol ≡ order.now.symbol }
         requires symbol { fill.now.symbol ≡ order.now.symbol }
         requires fill { IsFill fill.now }
         requires room { vec_len self.old.fills < vec_capacity self.old.fills }
@@ -121,7 +149,6 @@ impl Ledger {
         ensures orders { self.new.orders.items
             ≡ set self.old.orders.items place (in_state Filled first.now) }
         ensures fills { self.new.fills.items ≡ self.old.fills.items ++ fill.now ∷ [] }
-        ensures live { self.new.live.items ≡ self.old.live.items }
         ensures account { HasFills (fill.now ∷ []) self.old.portfolio self.new.portfolio }
         ensures held { held self.new.portfolio ≡ held self.old.portfolio }
         ensures capacity { vec_capacity self.new.fills ≡ vec_capacity self.old.fills }
@@ -139,12 +166,12 @@ impl Ledger {
         requires kept { IsLedger self.old }
         requires there { slice_get self.old.orders.items place ≡ Some order.now }
         requires id { first.now.id ≡ order.now.id }
+        requires same { first.now.symbol ≡ order.now.symbol }
         requires state { first.now.state ≡ order.now.state }
         requires rests { RestsWhereLive (held self.old.portfolio) first.now }
         ensures kept { IsLedger self.new }
         ensures orders { self.new.orders.items ≡ set self.old.orders.items place first.now }
         ensures fills { self.new.fills.items ≡ self.old.fills.items }
-        ensures live { self.new.live.items ≡ self.old.live.items }
         ensures account { self.new.portfolio ≡ self.old.portfolio }
         ensures capacity { vec_capacity self.new.fills ≡ vec_capacity self.old.fills }
         ensures len { vec_len self.new.fills ≡ vec_len self.old.fills }
@@ -156,7 +183,7 @@ impl Ledger {
     pub(crate) fn put(&mut self, order: Order)
         requires kept { IsLedger self.old }
         requires there { (old : Order) × (find (λ o. o.id == order.id) self.old.orders.items ≡ Some old)
-            × (is_live old.state ≡ true) }
+            × (is_live old.state ≡ true) × (order.symbol ≡ old.symbol) }
         requires rests { RestsWhereLive (held self.old.portfolio) order }
         requires open { is_filled order.state ≡ false }
         ensures kept { IsLedger self.new }
@@ -166,31 +193,5 @@ impl Ledger {
     {
         let place = order.id - 1;
         self.orders[place as usize] = order;
-    }
-
-    // Lets the places go of orders that are no longer live.
-    pub(crate) fn prune(&mut self)
-        requires kept { IsLedger self.old }
-        ensures kept { IsLedger self.new }
-        ensures orders { self.new.orders.items ≡ self.old.orders.items }
-        ensures fills { self.new.fills.items ≡ self.old.fills.items }
-        ensures account { self.new.portfolio ≡ self.old.portfolio }
-    {
-        let orders = &self.orders;
-        self.live.retain(
-            |place| -> bool
-                ensures { result ≡ is_live_at orders.entry.now.items place.now }
-            { is_live_at(orders, *place) },
-        );
-    }
-}
-
-// Names the place of an order, if the order is live. There is room for it.
-fn name(places: &mut Vec<u32>, place: u32, lives: bool)
-    requires { vec_len places.old < vec_capacity places.old }
-    ensures { places.new.items ≡ places.old.items ++ (if lives then place ∷ [] else []) }
-{
-    if lives {
-        places.push_reserved(place);
     }
 }

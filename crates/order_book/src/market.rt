@@ -72,6 +72,7 @@ impl Market {
         ensures value { result
             ≡ (trial self.now.costs (arc_value self.now.hours) self.now.bars.entries).first order.now }
         ensures id { result.id ≡ order.now.id }
+        ensures symbol { result.symbol ≡ order.now.symbol }
         ensures state { result.state ≡ order.now.state }
         ensures rests { (symbols : List (List ℕ)) → RestsWhereLive symbols order.now → RestsWhereLive symbols result }
     {
@@ -88,6 +89,7 @@ impl Market {
     fn set_off(&self, order: &Order, bar: &PriceBar) -> Order
         ensures value { result ≡ set_off (arc_value self.now.hours) order.now bar.now }
         ensures id { result.id ≡ order.now.id }
+        ensures symbol { result.symbol ≡ order.now.symbol }
         ensures state { result.state ≡ order.now.state }
         ensures ranged { IsRanged order.now → IsRanged result }
         ensures rests { (symbols : List (List ℕ)) → RestsWhereLive symbols order.now → RestsWhereLive symbols result }
@@ -103,7 +105,7 @@ impl Market {
     }
 
     // Whether the bar triggers the order. None does so on a day without a session.
-    fn is_set_off(&self, order: &Order, bar: &PriceBar) -> bool
+    pub(crate) fn is_set_off(&self, order: &Order, bar: &PriceBar) -> bool
         ensures { result ≡ is_set_off (arc_value self.now.hours) order.now bar.now }
     {
         match order.kind {
@@ -134,7 +136,7 @@ impl Market {
         }
     }
 
-    fn fill_on(&self, order: &Order, bar: &PriceBar) -> Option<Fill>
+    pub(crate) fn fill_on(&self, order: &Order, bar: &PriceBar) -> Option<Fill>
         requires costs { IsCosts self.now.costs }
         requires bar { IsPriced bar.now }
         requires ranged { IsRanged order.now }

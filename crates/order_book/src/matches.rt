@@ -1,4 +1,4 @@
-//! How live orders are tried on the bars since they were last tried.
+//! How orders are tried on the bars since they were last tried.
 use crate::ledger::Ledger;
 use crate::market::Market;
 use crate::replies::{said, say};
@@ -13,23 +13,33 @@ impl Market {
     ghost use Rattle.trade_costs.specs.Fees.{IsCosts};
     ghost use Rattle.order_book.specs.Filling.{trial};
     ghost use Rattle.order_book.specs.Tries.{IsLedger, Tries};
-    ghost use Rattle.order_book.specs.Resting.{ArePriced};
+    ghost use Rattle.order_book.specs.Resting.{ArePriced, Name};
+    ghost use Rattle.order_book.specs.Due.{is_due};
 
-    // Tries all live orders, by id. There is room for their fills and for what is said of them.
-    pub(crate) fn try_all(&self, ledger: &mut Ledger, at: Moment, out: &mut Vec<Reply>)
+    // Tries the orders at some places, which are those that the bars change, by id. There is room for their fills and for
+    // what is said of them.
+    pub(crate) fn try_all(
+        &self,
+        ledger: &mut Ledger,
+        due: &Vec<u32>,
+        at: Moment,
+        out: &mut Vec<Reply>,
+    )
         requires costs { IsCosts self.now.costs }
         requires bars { ArePriced self.now.bars.entries }
         requires kept { IsLedger ledger.old }
-        requires room { vec_len ledger.old.fills + vec_len ledger.old.live ≤ vec_capacity ledger.old.fills }
-        requires replies { vec_len out.old + vec_len ledger.old.live ≤ vec_capacity out.old }
+        requires due { Name (is_due self.now.costs (arc_value self.now.hours) self.now.bars.entries)
+            0 due.now.items ledger.old.orders.items }
+        requires room { vec_len ledger.old.fills + vec_len due.now ≤ vec_capacity ledger.old.fills }
+        requires replies { vec_len out.old + vec_len due.now ≤ vec_capacity out.old }
         ensures kept { IsLedger ledger.new }
         ensures tried { Tries (trial self.now.costs (arc_value self.now.hours) self.now.bars.entries) at
             [] ledger.old.orders.items [] ledger.old ledger.new out.old.items out.new.items }
-        ensures said { vec_len out.new ≤ vec_len out.old + vec_len ledger.old.live }
+        ensures said { vec_len out.new ≤ vec_len out.old + vec_len due.now }
         ensures capacity { vec_capacity out.old ≤ vec_capacity out.new }
     {
-        for i in 0..ledger.live.len() {
-            let place = ledger.live[i];
+        for i in 0..due.len() {
+            let place = due[i];
             self.try_at(ledger, place as usize, at, out);
         }
     }

@@ -98,7 +98,7 @@ impl Book {
         ensures unsaid { OnErr result (out.new.items ≡ out.old.items) }
     {
         out.reserve(2)?;
-        self.ledger.reserve_fill(request.symbol)?;
+        self.ledger.reserve_live(request.symbol)?;
         let order = made_order(self.next_id(), at, request, kind, OrderState::Live);
         let what = What::Submitted(kind, order.quantity, order.price, order.limit);
         say(&[said(at, order.id, order.symbol, what), Reply::Done], out);

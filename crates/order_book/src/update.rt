@@ -123,7 +123,7 @@ impl Book {
     // Puts an order in the place of the live one of its id, and replies so.
     fn replace(&mut self, order: Order, reply: Reply, out: &mut Vec<Reply>) -> Result<(), NoMemory>
         requires there { (old : Order) × (find (λ o. o.id == order.id) self.old.orders ≡ Some old)
-            × (is_live old.state ≡ true) }
+            × (is_live old.state ≡ true) × (order.symbol ≡ old.symbol) }
         requires rests { RestsWhereLive (held self.old.account) order }
         requires open { is_filled order.state ≡ false }
         ensures ok { OnOk result (Serves

@@ -1,4 +1,4 @@
-use Rattle.std.proofs.Common.{rules, ◌≡◌, ◌≤◌, List, [], length, subst, ap, arith}
+use Rattle.std.proofs.Common.{rules, ◌≡◌, ◌≤◌, List, [], length, refl, subst, ap, arith}
 use Rattle.std.specs.Arc.{arc_value}
 use Rattle.lean_orders.specs.declared.desk.Reply.{Reply}
 use Rattle.clock_book.specs.Fitting.{most_orders}
@@ -22,7 +22,7 @@ returns-clause-ok c =
       portfolio = c.self.inside.ledger.portfolio;
       orders = c.self.inside.ledger.orders;
       fills = c.reserve-2.new.self;
-      live = c.self.inside.ledger.live;
+      waiting = c.find_due.new.waiting;
     } in
     let P : Kept → Type 0 =
     λ old. Tries (trial old.costs old.hours old.bars) c.args.at [] first.orders.items [] first c.try_all.new.ledger c.reserve.new.self.items c.try_all.new.out.items in
@@ -30,4 +30,4 @@ returns-clause-ok c =
     λ before. Tries (trial c.args.self.now.costs c.args.self.now.hours c.args.self.now.bars) c.args.at [] first.orders.items [] first c.try_all.new.ledger before c.try_all.new.out.items in
     let tries : Q c.args.out.now.items = subst Q c.reserve.ensures.items (subst P c.self.view_is c.try_all.ensures.tried) in
     serves_match c.args.self.now _ first c.try_all.new.ledger c.args.at c.args.out.now.items c.try_all.new.out.items c.say.new.out.items costs leverage hours c.forget.ensures.bars
-    c.prune.ensures.account c.prune.ensures.orders c.prune.ensures.fills account_was orders_was fills_was few tries c.say.ensures.items
+    refl refl refl account_was orders_was fills_was few tries c.say.ensures.items
