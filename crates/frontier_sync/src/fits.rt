@@ -40,7 +40,7 @@ pub(crate) fn fits(after: Moment, item: &Item) -> bool
 }
 
 #[tactic(auto, unfolding(lean_items::specs::Fits::is_bar_in_range))]
-fn is_bar_in_range(bar: &Bar) -> bool
+pub(crate) fn is_bar_in_range(bar: &Bar) -> bool
     ensures { result ≡ is_bar_in_range bar.now }
 {
     is_moment(bar.start)
@@ -53,7 +53,7 @@ fn is_bar_in_range(bar: &Bar) -> bool
 }
 
 #[tactic(auto, unfolding(lean_items::specs::Fits::is_row_in_range))]
-fn is_row_in_range(at: Moment, row: &CoarseRow) -> bool
+pub(crate) fn is_row_in_range(at: Moment, row: &CoarseRow) -> bool
     ensures { result ≡ is_row_in_range at.0 row.now }
 {
     is_moment(at)

@@ -3,6 +3,7 @@ ghost use Rattle.std.specs.List.{find};
 ghost use Rattle.lean_items.specs.declared.item.Item.{Item};
 ghost use Rattle.frontier_sync.specs.Heads.{arrival, put, without, stops, IsFrontier, AreOpen, AreRising};
 ghost use Rattle.frontier_sync.specs.Slices.{IsSliced, slice_of, TakesOfHeads, MovesOn};
+ghost use Rattle.frontier_sync.specs.Stays.{Stays};
 
 use crate::ends::{first_stop, least_end};
 use crate::places::{forget, put};
@@ -90,10 +91,7 @@ impl Heads {
         ensures opened { OnOk result (AreOpen (P.is_open pool.new) self.new) }
         ensures same { OnErr result (out.new.items ≡ out.old.items) }
         ensures added { P.added pool.new ≡ P.added pool.old }
-        ensures files { P.files pool.new ≡ P.files pool.old }
-        ensures lists { P.lists pool.new ≡ P.lists pool.old }
-        ensures grows { P.faults pool.old ≤ P.faults pool.new }
-        ensures place { P.place pool.new ≡ P.place pool.old }
+        ensures stays { Stays P.files P.lists P.faults P.place pool.old pool.new }
     {
         let before = out.len();
         match refill_all(&mut self.heads, pool, at, out) {

@@ -7,6 +7,7 @@ ghost use Rattle.lean_items.specs.Fits.{fits};
 ghost use Rattle.lean_items.specs.Given.{is_last, IsRow, OnRow};
 ghost use Rattle.frontier_sync.specs.Heads.{arrival, AreRising, AreOpen};
 ghost use Rattle.frontier_sync.specs.Slices.{IsSliced, Refilled, given_of, slice_of, TakesOfHeads, MovesOn, TakesOfOne};
+ghost use Rattle.frontier_sync.specs.Stays.{Stays};
 
 use crate::fits::{ends_at, fits};
 use lean_fixed::{Moment, NoMemory};
@@ -30,10 +31,7 @@ pub(crate) fn refill_all<P: Pool>(
     ensures opened { OnOk result (AreOpen (P.is_open pool.new) heads.new.items) }
     ensures front { (more : List Arrival) × (out.new.items ≡ out.old.items ++ more) }
     ensures added { P.added pool.new ≡ P.added pool.old }
-    ensures files { P.files pool.new ≡ P.files pool.old }
-    ensures lists { P.lists pool.new ≡ P.lists pool.old }
-    ensures grows { P.faults pool.old ≤ P.faults pool.new }
-    ensures place { P.place pool.new ≡ P.place pool.old }
+    ensures stays { Stays P.files P.lists P.faults P.place pool.old pool.new }
 {
     'heads: for place in 0..heads.len() {
         let head = &mut heads[place];
@@ -60,10 +58,7 @@ fn refill<P: Pool>(
     ensures others { (n : ℕ) → n ≢ head.old.feed.0 → P.is_open pool.new n ≡ P.is_open pool.old n }
     ensures front { (more : List Arrival) × (out.new.items ≡ out.old.items ++ more) }
     ensures added { P.added pool.new ≡ P.added pool.old }
-    ensures files { P.files pool.new ≡ P.files pool.old }
-    ensures lists { P.lists pool.new ≡ P.lists pool.old }
-    ensures grows { P.faults pool.old ≤ P.faults pool.new }
-    ensures place { P.place pool.new ≡ P.place pool.old }
+    ensures stays { Stays P.files P.lists P.faults P.place pool.old pool.new }
 {
     let feed = head.feed;
     'items: while ends_at(at, &head.item) {
@@ -83,10 +78,7 @@ fn take_next<P: Pool>(pool: &mut P, feed: FeedNo, at: Moment) -> Item
         ≡ (if n == feed.0 then not (is_last result) else P.is_open pool.old n) }
     ensures fewer { OnRow result (P.room pool.new feed.0 < P.room pool.old feed.0) }
     ensures added { P.added pool.new ≡ P.added pool.old }
-    ensures files { P.files pool.new ≡ P.files pool.old }
-    ensures lists { P.lists pool.new ≡ P.lists pool.old }
-    ensures grows { P.faults pool.old ≤ P.faults pool.new }
-    ensures place { P.place pool.new ≡ P.place pool.old }
+    ensures stays { Stays P.files P.lists P.faults P.place pool.old pool.new }
 {
     'taken: loop {
         let item = pool.take(feed);

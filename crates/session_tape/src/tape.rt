@@ -7,20 +7,21 @@ ghost use Rattle.lean_items.specs.declared.feed_key.FeedKey.{FeedKey as Key};
 ghost use Rattle.lean_items.specs.declared.item.Item.{Item as GivenItem};
 ghost use Rattle.lean_items.specs.Taken.{Feeds, AllFollow, no_feeds};
 ghost use Rattle.exchange_hours.specs.Entries.{Entries};
+ghost use Rattle.frontier_sync.specs.Stays.{Stays};
 ghost use Rattle.clock_feeds.specs.Slices.{Source as FeedSource};
 ghost use Rattle.report_pages.specs.Printed.{HasCause, HasRoom};
 ghost use Rattle.session_tape.specs.Session.{session_sources};
 ghost use Rattle.session_tape.specs.Walked.{AreFeeds, HasFaulted, HasWalked, IfFaulted, IsWalked};
 ghost use Rattle.session_tape.specs.Reports.{HasFile, IsLast, IsReport, IsReportFront};
 
-use crate::ending::{Ended, Ending};
+use crate::ending::Ending;
 use crate::feeds::open_feeds;
 use crate::walk::walk;
 use frontier_sync::Heads;
 use lean_fixed::{NoMemory, Resolution, Symbol, Window};
 use lean_io::Sink;
 use lean_items::{FeedKind, Pool};
-use report_pages::{PAGE, Stop, append_end, append_refusal, flush};
+use report_pages::{Ended, PAGE, Stop, append_end, append_refusal, flush};
 use std::alloc::Global;
 
 /// Prints the session tape of some symbols, at most 64, over the feeds of a new pool, and finishes the pool. The window's
@@ -53,9 +54,7 @@ pub fn print_session<P: Pool, S: Sink>(
         → ended ≡ Ended.ReadFault → Rose before (P.faults pool.new)) }
     ensures cause { IfErr result (HasCause (S.faults out.old) (S.faults out.new)) }
     ensures sink_grows { S.faults out.old ≤ S.faults out.new }
-    ensures files { P.files pool.new ≡ P.files pool.old }
-    ensures grows { P.faults pool.old ≤ P.faults pool.new }
-    ensures place { P.place pool.new ≡ P.place pool.old }
+    ensures stays { Stays P.files P.lists P.faults P.place pool.old pool.new }
 {
     let mut page = Vec::with_capacity(alloc, PAGE)?;
     let walked = walk_feeds(alloc, pool, resolution, window, symbols, &mut page, out);
@@ -90,10 +89,7 @@ fn walk_feeds<P: Pool, S: Sink>(
         (S.told out.old) (S.told out.new) page.old.items page.new.items result) }
     ensures cause { IfErr result (HasCause (S.faults out.old) (S.faults out.new)) }
     ensures sink_grows { S.faults out.old ≤ S.faults out.new }
-    ensures files { P.files pool.new ≡ P.files pool.old }
-    ensures lists { P.lists pool.new ≡ P.lists pool.old }
-    ensures grows { P.faults pool.old ≤ P.faults pool.new }
-    ensures place { P.place pool.new ≡ P.place pool.old }
+    ensures stays { Stays P.files P.lists P.faults P.place pool.old pool.new }
 {
     let mut heads = Heads::new(alloc);
     match open_feeds(alloc, pool, resolution, window, symbols, &mut heads) {

@@ -11,6 +11,7 @@ ghost use Rattle.lean_items.specs.Taken.{Feeds, AllFollow};
 ghost use Rattle.exchange_hours.specs.Entries.{Entries};
 ghost use Rattle.frontier_sync.specs.Heads.{AreOpen, EndsFrom, stops};
 ghost use Rattle.frontier_sync.specs.Stands.{IsTaken, HeadsStand};
+ghost use Rattle.frontier_sync.specs.Stays.{Stays};
 ghost use Rattle.report_pages.specs.Printed.{HasCause, HasRoom};
 ghost use Rattle.session_tape.specs.Session.{session_sources};
 ghost use Rattle.session_tape.specs.Walked.{keys_of, AreFeeds, HasFaulted, HasWalked, IfFaulted, IsEnding};
@@ -56,10 +57,7 @@ pub(crate) fn walk<P: Pool, S: Sink>(
         (S.told out.old) (S.told out.new) page.old.items page.new.items result) }
     ensures cause { IfErr result (HasCause (S.faults out.old) (S.faults out.new)) }
     ensures sink_grows { S.faults out.old ≤ S.faults out.new }
-    ensures files { P.files pool.new ≡ P.files pool.old }
-    ensures lists { P.lists pool.new ≡ P.lists pool.old }
-    ensures grows { P.faults pool.old ≤ P.faults pool.new }
-    ensures place { P.place pool.new ≡ P.place pool.old }
+    ensures stays { Stays P.files P.lists P.faults P.place pool.old pool.new }
 {
     let mut slice = Vec::new(alloc);
     let mut front = Vec::new(alloc);

@@ -1,7 +1,7 @@
 use Rattle.std.proofs.Common.{◌≡◌, ◌<◌, false, [], ◌∷◌, ◌++◌, sym, ◌∙◌, arith}
 use Rattle.std.proofs.lemmas.List.Elements.{All-push}
-use Rattle.frontier_sync.specs.Heads.{ends_past}
-use Rattle.frontier_sync.proofs.TakenLemmas.{takes-more}
+use Rattle.frontier_sync.specs.Heads.{fits_first}
+use Rattle.frontier_sync.proofs.TakenLemmas.{stays-more, takes-more}
 use Rattle.frontier_sync.proofs.RefillLemmas.{on-row, open-still}
 use Rattle.frontier_sync.proofs.FirstLemmas.{passed-row}
 use Rattle.frontier_sync.proofs.first.first_head.Goals as goal
@@ -14,20 +14,18 @@ taken-preserved g c =
     let first = c.args.pool.now in
     let now = c.taken.pool in
     let next = c.take-item.new.self in
-    let before : ends_past c.args.start.0 item ≡ false = sym c.ends_past.ensures ∙ c.if-ends_past.false in
+    let before : fits_first c.args.start.0 item ≡ false = sym c.fits_first.ensures ∙ c.if-fits_first.false in
     let row = passed-row c.args.start.0 item before in
     let fewer : g.P.Pool.room next feed < g.P.Pool.room now feed = on-row item (g.P.Pool.room next feed < g.P.Pool.room now feed) c.take-item.ensures.fewer row in
     record {
       took = (
         took.0 ++ item ∷ [],
-        All-push (λ x. ends_past c.args.start.0 x ≡ false) took.0 item took.1 before,
+        All-push (λ x. fits_first c.args.start.0 x ≡ false) took.0 item took.1 before,
         takes-more (g.P.Pool.stands first) (g.P.Pool.stands now) (g.P.Pool.stands next) feed took.0 (item ∷ []) took.2 c.take-item.ensures.stands,
       );
       opened = open-still (g.P.Pool.is_open first) (g.P.Pool.is_open now) (g.P.Pool.is_open next) feed item row c.requires.opened c.taken.invariant.opened c.take-item.ensures.opened;
       fewer = omega (arith, fewer, c.taken.invariant.fewer);
       added = c.take-item.ensures.added ∙ c.taken.invariant.added;
-      files = c.take-item.ensures.files ∙ c.taken.invariant.files;
-      lists = c.take-item.ensures.lists ∙ c.taken.invariant.lists;
-      grows = omega (arith, c.take-item.ensures.grows, c.taken.invariant.grows);
-      place = c.take-item.ensures.place ∙ c.taken.invariant.place;
+      stays = stays-more g.P.Pool.files g.P.Pool.lists g.P.Pool.faults g.P.Pool.place first now next c.taken.invariant.stays
+          (record { told = c.take-item.ensures.files; keyed = c.take-item.ensures.lists; grows = c.take-item.ensures.grows; placed = c.take-item.ensures.place });
     }

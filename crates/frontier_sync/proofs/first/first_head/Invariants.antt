@@ -2,8 +2,9 @@
 use Rattle.std.proofs.Common.{◌≡◌, ℕ, ◌≤◌, false, List}
 use Rattle.std.specs.List.{All}
 use Rattle.lean_items.specs.declared.item.Item.{Item}
-use Rattle.frontier_sync.specs.Heads.{ends_past}
+use Rattle.frontier_sync.specs.Heads.{fits_first}
 use Rattle.frontier_sync.specs.Slices.{TakesOfOne}
+use Rattle.frontier_sync.specs.Stays.{Stays}
 use Rattle.frontier_sync.proofs.first.first_head.Given as goal
 
 abbrev pub invariant-taken : goal.invariant-taken
@@ -11,15 +12,12 @@ invariant-taken g l =
     let first = l.fn.pool in
     let now = l.pool in
     record {
-      took : (passed : List Item) × All (λ item. ends_past l.start.0 item ≡ false) passed
+      took : (passed : List Item) × All (λ item. fits_first l.start.0 item ≡ false) passed
           × TakesOfOne (g.P.Pool.stands first) (g.P.Pool.stands now) l.feed.0 passed;
       opened : (n : ℕ) → g.P.Pool.is_open now n ≡ g.P.Pool.is_open first n;
       fewer : g.P.Pool.room now l.feed.0 ≤ g.P.Pool.room first l.feed.0;
       added : g.P.Pool.added now ≡ g.P.Pool.added first;
-      files : g.P.Pool.files now ≡ g.P.Pool.files first;
-      lists : g.P.Pool.lists now ≡ g.P.Pool.lists first;
-      grows : g.P.Pool.faults first ≤ g.P.Pool.faults now;
-      place : g.P.Pool.place now ≡ g.P.Pool.place first;
+      stays : Stays g.P.Pool.files g.P.Pool.lists g.P.Pool.faults g.P.Pool.place first now;
     }
 
 abbrev pub decreases-taken : goal.decreases-taken

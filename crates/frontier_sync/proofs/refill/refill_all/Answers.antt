@@ -2,6 +2,7 @@ use Rattle.std.proofs.Common.{◌≡◌, ◌<◌, [], length, get_or, refl, sym,
 use Rattle.std.proofs.lemmas.List.{length-set}
 use Rattle.lean_items.specs.declared.arrival.Arrival.{Arrival}
 use Rattle.frontier_sync.proofs.SliceLemmas.{sliced-none, sliced-more, sliced-short, sliced-all, rising-written, open-written, front-more, ok-of-err}
+use Rattle.frontier_sync.proofs.TakenLemmas.{stays-none, stays-more}
 use Rattle.frontier_sync.proofs.refill.refill_all.Goals as goal
 
 pub heads-init : goal.heads-init
@@ -12,10 +13,7 @@ heads-init g c = record {
   opened = c.requires.opened;
   front = ([], sym (append-nil c.args.out.now.items));
   added = refl;
-  files = refl;
-  lists = refl;
-  grows = omega arith;
-  place_kept = refl;
+  stays = stays-none g.P.Pool.files g.P.Pool.lists g.P.Pool.faults g.P.Pool.place c.args.pool.now;
 }
 
 pub returns-in_err-refill-clause-rising : goal.returns-in_err-refill-clause-rising
@@ -52,10 +50,7 @@ heads-preserved g c =
           inv.rising within read c.refill.ensures.feed c.refill.ensures.opened c.refill.ensures.others;
       front = front-more c.args.out.now.items c.heads.out.items c.refill.new.out.items inv.front c.refill.ensures.front;
       added = c.refill.ensures.added ∙ inv.added;
-      files = c.refill.ensures.files ∙ inv.files;
-      lists = c.refill.ensures.lists ∙ inv.lists;
-      grows = omega (arith, c.refill.ensures.grows, inv.grows);
-      place_kept = c.refill.ensures.place ∙ inv.place_kept;
+      stays = stays-more g.P.Pool.files g.P.Pool.lists g.P.Pool.faults g.P.Pool.place c.args.pool.now c.heads.pool c.refill.new.pool inv.stays c.refill.ensures.stays;
     }
 
 pub returns-clause-took : goal.returns-clause-took

@@ -1,7 +1,7 @@
 use Rattle.std.proofs.Common.{◌≡◌, ◌<◌, false, [], ◌∷◌, ◌++◌, sym, ◌∙◌, arith}
 use Rattle.std.proofs.lemmas.List.Elements.{All-push}
 use Rattle.lean_items.specs.Fits.{fits}
-use Rattle.frontier_sync.proofs.TakenLemmas.{takes-more}
+use Rattle.frontier_sync.proofs.TakenLemmas.{stays-more, takes-more}
 use Rattle.frontier_sync.proofs.RefillLemmas.{misfit-row, on-row, open-still}
 use Rattle.frontier_sync.proofs.refill.take_next.Goals as goal
 
@@ -25,8 +25,6 @@ taken-preserved g c =
       opened = open-still (g.P.Pool.is_open first) (g.P.Pool.is_open now) (g.P.Pool.is_open next) feed item row c.requires.opened c.taken.invariant.opened c.take-item.ensures.opened;
       fewer = omega (arith, fewer, c.taken.invariant.fewer);
       added = c.take-item.ensures.added ∙ c.taken.invariant.added;
-      files = c.take-item.ensures.files ∙ c.taken.invariant.files;
-      lists = c.take-item.ensures.lists ∙ c.taken.invariant.lists;
-      grows = omega (arith, c.take-item.ensures.grows, c.taken.invariant.grows);
-      place = c.take-item.ensures.place ∙ c.taken.invariant.place;
+      stays = stays-more g.P.Pool.files g.P.Pool.lists g.P.Pool.faults g.P.Pool.place first now next c.taken.invariant.stays
+          (record { told = c.take-item.ensures.files; keyed = c.take-item.ensures.lists; grows = c.take-item.ensures.grows; placed = c.take-item.ensures.place });
     }

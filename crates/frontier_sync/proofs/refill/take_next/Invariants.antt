@@ -4,6 +4,7 @@ use Rattle.std.specs.List.{All}
 use Rattle.lean_items.specs.declared.item.Item.{Item}
 use Rattle.lean_items.specs.Fits.{fits}
 use Rattle.frontier_sync.specs.Slices.{TakesOfOne}
+use Rattle.frontier_sync.specs.Stays.{Stays}
 use Rattle.frontier_sync.proofs.refill.take_next.Given as goal
 
 abbrev pub invariant-taken : goal.invariant-taken
@@ -16,10 +17,7 @@ invariant-taken g l =
       opened : (n : ℕ) → g.P.Pool.is_open now n ≡ g.P.Pool.is_open first n;
       fewer : g.P.Pool.room now l.feed.0 ≤ g.P.Pool.room first l.feed.0;
       added : g.P.Pool.added now ≡ g.P.Pool.added first;
-      files : g.P.Pool.files now ≡ g.P.Pool.files first;
-      lists : g.P.Pool.lists now ≡ g.P.Pool.lists first;
-      grows : g.P.Pool.faults first ≤ g.P.Pool.faults now;
-      place : g.P.Pool.place now ≡ g.P.Pool.place first;
+      stays : Stays g.P.Pool.files g.P.Pool.lists g.P.Pool.faults g.P.Pool.place first now;
     }
 
 abbrev pub decreases-taken : goal.decreases-taken

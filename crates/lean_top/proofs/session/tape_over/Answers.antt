@@ -10,7 +10,7 @@ use Rattle.session_tape.specs.Session.{session_sources, session}
 use Rattle.session_tape.specs.Walked.{AreFeeds}
 use Rattle.lean_top.specs.Outcome.{HasReported}
 use Rattle.lean_top.specs.Report.{session_report_of, AreMinutesBy}
-use Rattle.lean_top.proofs.SessionLemmas.{tape_reported}
+use Rattle.lean_top.proofs.TapeLemmas.{tape_reported}
 use Rattle.lean_top.proofs.session.tape_over.Goals as goal
 
 pub returns-in-Ok-clause-reported : goal.returns-in-Ok-clause-reported

@@ -13,7 +13,7 @@ returns-in-Ok-clause-told g c =
     let told = g.S.Sink.told c.walk_feeds-walked.new.out in
     if_ok c.end.result _ _ (λ ended tells before lists f hours stand is are.
     (let (now, stands_now, faulted, walks) = c.in-Ok.ensures.stands before stand in
-    let follow = c.finish.ensures.follow before now stands_now lists (c.in-Ok.ensures.lists ∙ is) in
+    let follow = c.finish.ensures.follow before now stands_now lists (c.in-Ok.ensures.stays.keyed ∙ is) in
     let sources = session_sources f hours c.args.resolution c.args.window c.args.symbols.now in
     let walked = subst (λ page. IsWalked sources c.args.window told0 told page c.walk_feeds-walked.new.page.items c.in-Ok.ending) c.in_ok-page.ensures.items (walks lists f hours are follow) in
     tells told0 sources c.args.window walked)) c.end.ensures.told
@@ -24,7 +24,7 @@ returns-in-Ok-clause-front g c =
     let told = g.S.Sink.told c.walk_feeds-walked.new.out in
     on_err-map c.end.result _ _ (λ tells before lists f hours stand is are.
     (let (now, stands_now, faulted, walks) = c.in-Ok.ensures.stands before stand in
-    let follow = c.finish.ensures.follow before now stands_now lists (c.in-Ok.ensures.lists ∙ is) in
+    let follow = c.finish.ensures.follow before now stands_now lists (c.in-Ok.ensures.stays.keyed ∙ is) in
     let sources = session_sources f hours c.args.resolution c.args.window c.args.symbols.now in
     let walked = subst (λ page. IsWalked sources c.args.window told0 told page c.walk_feeds-walked.new.page.items c.in-Ok.ending) c.in_ok-page.ensures.items (walks lists f hours are follow) in
     tells told0 sources c.args.window walked)) c.end.ensures.front
@@ -41,7 +41,7 @@ returns-clause-front g c before lists f hours stand is are =
     let told0 = g.S.Sink.told c.args.out.now in
     let told = g.S.Sink.told c.walk_feeds-walked.new.out in
     let (now, stands_now, faulted, walks) = c.in-Err.ensures.stands before stand in
-    let follow = c.finish.ensures.follow before now stands_now lists (c.in-Err.ensures.lists ∙ is) in
+    let follow = c.finish.ensures.follow before now stands_now lists (c.in-Err.ensures.stays.keyed ∙ is) in
     let sources = session_sources f hours c.args.resolution c.args.window c.args.symbols.now in
     cut_short c.args.resolution c.args.window sources told0 told
     (subst (λ page. IsFront told0 told (page ++ session_text (session sources c.args.window).lines)) c.in_ok-page.ensures.items (walks lists f hours are follow))

@@ -6,6 +6,7 @@ use Rattle.lean_items.specs.declared.arrival.Arrival.{Arrival}
 use Rattle.frontier_sync.specs.Heads.{stops}
 use Rattle.frontier_sync.specs.Slices.{ends_at, slice_of, IsSliced}
 use Rattle.frontier_sync.proofs.StandLemmas.{head-found}
+use Rattle.frontier_sync.proofs.TakenLemmas.{stays-none, stays-more}
 use Rattle.report_pages.specs.declared.pages.Stop.TheVariants.{NoMemory}
 use Rattle.report_pages.specs.Printed.{IsPrinted, IsFront}
 use Rattle.session_tape.specs.Session.{session_text}
@@ -30,10 +31,7 @@ minutes-init g c =
           (g.S.Sink.told c.args.out.now) c.args.page.now.items c.requires.order stand taken);
       room = c.requires.room;
       sink_grows = omega arith;
-      files = refl;
-      lists = refl;
-      grows = omega arith;
-      place = refl;
+      stays = stays-none g.P.Pool.files g.P.Pool.lists g.P.Pool.faults g.P.Pool.place c.args.pool.now;
     }
 
 pub ending_at-requires-clause-stops : goal.ending_at-requires-clause-stops
@@ -123,8 +121,5 @@ minutes-preserved g c =
           none inv.later (omega (arith, low)) high from c.requires.few sliced moves counted printed c.saturating_add-rows.ensures;
       room = lines.room;
       sink_grows = omega (arith, inv.sink_grows, lines.grows);
-      files = took.files ∙ inv.files;
-      lists = took.lists ∙ inv.lists;
-      grows = omega (arith, inv.grows, took.grows);
-      place = took.place ∙ inv.place;
+      stays = stays-more g.P.Pool.files g.P.Pool.lists g.P.Pool.faults g.P.Pool.place c.args.pool.now c.minutes.pool c.slice.new.pool inv.stays took.stays;
     }

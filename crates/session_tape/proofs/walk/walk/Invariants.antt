@@ -7,6 +7,7 @@ use Rattle.frontier_sync.specs.Heads.{AreOpen}
 use Rattle.frontier_sync.specs.Stands.{IsTaken}
 use Rattle.report_pages.specs.Printed.{HasRoom}
 use Rattle.session_tape.proofs.WalkLemmas.{AreNumbered, AllFrom, Known}
+use Rattle.frontier_sync.specs.Stays.{Stays}
 use Rattle.session_tape.proofs.walk.walk.Given as goal
 
 abbrev pub invariant-minutes : goal.invariant-minutes
@@ -24,10 +25,7 @@ invariant-minutes g l =
           (g.S.Sink.told l.fn.out) (g.S.Sink.told l.out) l.fn.page.items l.page.items;
       room : HasRoom l.page.items;
       sink_grows : g.S.Sink.faults l.fn.out ≤ g.S.Sink.faults l.out;
-      files : g.P.Pool.files now ≡ g.P.Pool.files first;
-      lists : g.P.Pool.lists now ≡ g.P.Pool.lists first;
-      grows : g.P.Pool.faults first ≤ g.P.Pool.faults now;
-      place : g.P.Pool.place now ≡ g.P.Pool.place first;
+      stays : Stays g.P.Pool.files g.P.Pool.lists g.P.Pool.faults g.P.Pool.place first now;
     }
 
 abbrev pub decreases-minutes : goal.decreases-minutes

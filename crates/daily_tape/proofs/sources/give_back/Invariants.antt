@@ -1,0 +1,12 @@
+use Rattle.std.proofs.Common.{◌≡◌, ◌≤◌, length}
+use Rattle.daily_tape.proofs.SourceLemmas.{IsGiven}
+use Rattle.daily_tape.proofs.sources.give_back.Given as goal
+
+abbrev pub invariant-sources : goal.invariant-sources
+invariant-sources g l =
+    IsGiven g.F.H.Hand.faults l.fn.sources.items l.left.items (g.F.Folder.faults l.fn.folder) (g.F.Folder.faults l.folder)
+    × (g.F.Folder.faults l.fn.folder ≤ g.F.Folder.faults l.folder)
+    × (g.F.Folder.files l.folder ≡ g.F.Folder.files l.fn.folder)
+
+abbrev pub decreases-sources : goal.decreases-sources
+decreases-sources g l = length l.left.items
