@@ -1,10 +1,10 @@
 //! The lines of the rows of a step.
-ghost use Rattle.std.specs.Prelude.{◌≡◌, ℕ, ◌+◌, ◌-◌, ◌<◌, ◌≤◌, ◌++◌, List, length, IfOk, OnOk, OnErr, IfErr};
+ghost use Rattle.std.specs.Prelude.{◌≡◌, ℕ, ◌+◌, ◌-◌, ◌<◌, ◌≤◌, List, length, IfOk, OnOk};
 ghost use Rattle.std.specs.List.{AllByRecursion, AllZip};
 ghost use Rattle.lean_fixed.specs.Calendar.{last_day};
 ghost use Rattle.lean_fixed.specs.Printed.{day_text};
 ghost use Rattle.lean_io.specs.Told.{Files};
-ghost use Rattle.report_pages.specs.Printed.{IsPrinted, IsFront, HasCause, HasRoom};
+ghost use Rattle.report_pages.specs.Printed.{HasRoom, Prints};
 ghost use Rattle.daily_tape.specs.DailyTape.{Security, step_of, tape_line, tape_text, trades_of};
 ghost use Rattle.daily_tape.specs.Entry.{row_day};
 ghost use Rattle.daily_tape.specs.Head.{StandsPast};
@@ -19,37 +19,33 @@ use equity_csv::{Dates, Row};
 use lean_fixed::Day;
 use lean_fixed::laws::day_reads_back;
 use lean_io::{Hand, Sink};
-use report_pages::{Stop, Trades, append_row, turn_page};
+use report_pages::{Page, Stop, Trades, print_row};
 
 // Prints the row that is the head of a security, and goes on behind it.
-fn print_row<H: Hand, S: Sink>(
+fn print_head<H: Hand, S: Sink>(
     date: &[u8],
     row: DailyRow,
     source: &mut Source<H>,
     dates: &mut Dates,
-    page: &mut Vec<u8>,
+    page: &mut Page,
     out: &mut S,
 ) -> Result<(), Stop>
     requires date { date.now ≡ day_text (row_day row.row) }
     requires head { source.old.head ≡ Head.Row row }
     requires sound { IsSound H.is_open H.faults source.old }
+    requires room { HasRoom page.old }
     ensures sound { IsSound H.is_open H.faults source.new }
     ensures past { OnOk result (StandsPast (step_of row.row) source.new.head) }
     ensures follows { OnOk result ((f : Files) (k : ℕ) (security : Security)
         → Follows H.files H.rest f k security source.old
         → Follows H.files H.rest f (step_of row.row) security source.new) }
-    ensures room { OnOk result (HasRoom page.new.items) }
-    ensures printed { OnOk result (IsPrinted (S.told out.old) (S.told out.new)
-        page.old.items page.new.items (tape_line (source.old.symbol, row.row))) }
-    ensures front { OnErr result (IsFront (S.told out.old) (S.told out.new)
-        (page.old.items ++ tape_line (source.old.symbol, row.row))) }
-    ensures cause { IfErr result (HasCause (S.faults out.old) (S.faults out.new)) }
-    ensures grows { S.faults out.old ≤ S.faults out.new }
+    ensures prints { Prints S.told S.faults out.old out.new page.old page.new
+        (tape_line (source.old.symbol, row.row)) result }
 {
     day_reads_back();
-    append_row(date, &source.symbol, &trades_of(&row.row), page)?;
+    let printed = print_row(date, &source.symbol, &trades_of(&row.row), page, out);
     source.advance(dates, row);
-    turn_page(page, out)
+    printed
 }
 
 // Prints the row of a security where it stands at the step, and goes on behind it. It gives the number of rows.
@@ -58,13 +54,13 @@ fn print_source<H: Hand, S: Sink>(
     date: &[u8],
     source: &mut Source<H>,
     dates: &mut Dates,
-    page: &mut Vec<u8>,
+    page: &mut Page,
     out: &mut S,
 ) -> Result<u64, Stop>
     requires date { date.now ≡ day_text (step - 1) }
     requires sound { IsSound H.is_open H.faults source.old }
     requires ahead { IsAhead step source.old.head }
-    requires room { HasRoom page.old.items }
+    requires room { HasRoom page.old }
     ensures sound { IsSound H.is_open H.faults source.new }
     ensures past { OnOk result (StandsPast step source.new.head) }
     ensures follows { OnOk result ((f : Files) (k : ℕ) (security : Security) → k < step
@@ -72,20 +68,15 @@ fn print_source<H: Hand, S: Sink>(
         → Follows H.files H.rest f step security source.new) }
     ensures counted { IfOk result (λ rows. rows ≡ length (rows_now step source.old)) }
     ensures few { IfOk result (λ rows. rows ≤ 1) }
-    ensures room { OnOk result (HasRoom page.new.items) }
-    ensures printed { OnOk result (IsPrinted (S.told out.old) (S.told out.new)
-        page.old.items page.new.items (tape_text (rows_now step source.old))) }
-    ensures front { OnErr result (IsFront (S.told out.old) (S.told out.new)
-        (page.old.items ++ tape_text (rows_now step source.old))) }
-    ensures cause { IfErr result (HasCause (S.faults out.old) (S.faults out.new)) }
-    ensures grows { S.faults out.old ≤ S.faults out.new }
+    ensures prints { Prints S.told S.faults out.old out.new page.old page.new
+        (tape_text (rows_now step source.old)) result }
 {
     match source.head {
         Head::Row(row) => {
             if step_of_row(&row) != step {
                 return Ok(0);
             }
-            match print_row(date, row, source, dates, page, out) {
+            match print_head(date, row, source, dates, page, out) {
                 Ok(()) => Ok(1),
                 Err(stop) => Err(stop),
             }
@@ -101,14 +92,14 @@ pub(crate) fn print_step<H: Hand, S: Sink>(
     step: u32,
     sources: &mut Vec<Source<H>>,
     dates: &mut Dates,
-    page: &mut Vec<u8>,
+    page: &mut Page,
     out: &mut S,
 ) -> Result<u64, Stop>
     requires first { 1 ≤ step }
     requires last { step ≤ last_day + 1 }
     requires sound { AllByRecursion (IsSound H.is_open H.faults) sources.old.items }
     requires ahead { AllAhead step sources.old.items }
-    requires room { HasRoom page.old.items }
+    requires room { HasRoom page.old }
     requires few { length sources.old.items ≤ 64 }
     ensures same { length sources.new.items ≡ length sources.old.items }
     ensures sound { AllByRecursion (IsSound H.is_open H.faults) sources.new.items }
@@ -118,19 +109,17 @@ pub(crate) fn print_step<H: Hand, S: Sink>(
         → AllZip (Follows H.files H.rest f step) all sources.new.items) }
     ensures counted { IfOk result (λ rows. rows ≡ length (all_rows_now step sources.old.items)) }
     ensures few { IfOk result (λ rows. rows ≤ 64) }
-    ensures room { OnOk result (HasRoom page.new.items) }
-    ensures printed { OnOk result (IsPrinted (S.told out.old) (S.told out.new)
-        page.old.items page.new.items (tape_text (all_rows_now step sources.old.items))) }
-    ensures front { OnErr result (IsFront (S.told out.old) (S.told out.new)
-        (page.old.items ++ tape_text (all_rows_now step sources.old.items))) }
-    ensures cause { IfErr result (HasCause (S.faults out.old) (S.faults out.new)) }
-    ensures grows { S.faults out.old ≤ S.faults out.new }
+    ensures prints { Prints S.told S.faults out.old out.new page.old page.new
+        (tape_text (all_rows_now step sources.old.items)) result }
 {
     let date = Day(step as i32 - 1).digits();
     let mut rows: u64 = 0;
     for place in 0..sources.len() {
         let source = &mut sources[place];
-        rows += print_source(step, &date, source, dates, page, out)?;
+        match print_source(step, &date, source, dates, page, out) {
+            Ok(printed) => rows += printed,
+            Err(stop) => return Err(stop),
+        }
     }
     Ok(rows)
 }

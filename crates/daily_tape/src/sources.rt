@@ -1,5 +1,5 @@
 //! The securities of a tape, each with a hand of the folder.
-ghost use Rattle.std.specs.Prelude.{◌≡◌, ◌≤◌, ◌<◌, [], Some, length, vec_capacity, IfOk, OnOk};
+ghost use Rattle.std.specs.Prelude.{◌≡◌, ◌+◌, ◌-◌, ◌≤◌, ◌<◌, [], Some, length, vec_capacity, IfOk, OnOk, OnErr};
 ghost use Rattle.std.specs.List.{AllByRecursion, AllZip};
 ghost use Rattle.lean_io.specs.Told.{Files, Rose};
 ghost use Rattle.daily_tape.specs.DailyTape.{security, securities};
@@ -28,6 +28,7 @@ pub fn open_sources<F: Folder>(
     ensures sound { OnOk result (AllByRecursion (IsSound F.H.is_open F.H.faults) sources.new.items) }
     ensures past { OnOk result (AllPast 0 sources.new.items) }
     ensures counted { OnOk result (length sources.new.items ≡ length symbols.now) }
+    ensures hands { F.hands folder.new ≡ F.hands folder.old + length sources.new.items }
     ensures kept { F.files folder.new ≡ F.files folder.old }
     ensures same { F.faults folder.new ≡ F.faults folder.old }
 {
@@ -48,6 +49,8 @@ fn open_source<F: Folder>(
         → Follows F.H.files F.H.rest f 0 (security f symbol.now) source) }
     ensures sound { IfOk result (IsSound F.H.is_open F.H.faults) }
     ensures past { IfOk result (λ source. StandsPast 0 source.head) }
+    ensures out { OnOk result (F.hands folder.new ≡ F.hands folder.old + 1) }
+    ensures none { OnErr result (F.hands folder.new ≡ F.hands folder.old) }
     ensures kept { F.files folder.new ≡ F.files folder.old }
     ensures same { F.faults folder.new ≡ F.faults folder.old }
 {
@@ -59,6 +62,7 @@ fn open_source<F: Folder>(
 /// Gives the hands of the securities back to the folder.
 pub fn give_back<F: Folder>(sources: Vec<Source<F::H>>, folder: &mut F)
     ensures rose { HasFaulted F.H.faults sources.items → Rose (F.faults folder.old) (F.faults folder.new) }
+    ensures hands { F.hands folder.new ≡ F.hands folder.old - length sources.items }
     ensures kept { F.files folder.new ≡ F.files folder.old }
     ensures grows { F.faults folder.old ≤ F.faults folder.new }
 {

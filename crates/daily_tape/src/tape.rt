@@ -1,8 +1,8 @@
 //! The daily tape from the files of a folder to its last line.
-ghost use Rattle.std.specs.Prelude.{◌≡◌, ◌≤◌, ◌++◌, List, ℕ, [], Some, length, vec_capacity, IfOk, OnErr, IfErr};
+ghost use Rattle.std.specs.Prelude.{◌≡◌, ◌+◌, ◌≤◌, ◌++◌, List, ℕ, [], Some, length, vec_capacity, IfOk, OnErr, IfErr};
 ghost use Rattle.std.specs.List.{AllByRecursion, AllZip};
 ghost use Rattle.lean_io.specs.Told.{Files, Rose};
-ghost use Rattle.report_pages.specs.Printed.{HasCause};
+ghost use Rattle.report_pages.specs.Printed.{HasCause, HasRoom};
 ghost use Rattle.daily_tape.specs.DailyTape.{Security, securities};
 ghost use Rattle.daily_tape.specs.Endings.{HasStopped, IsLast, IsLastAt, HasFaulted, IsReport, IsReportFront};
 ghost use Rattle.daily_tape.specs.Source.{IsSound, Follows};
@@ -16,7 +16,7 @@ use crate::walk::print_rows;
 use lean_fixed::{NoMemory, Resolution, Symbol};
 use lean_io::{Folder, Hand, Sink};
 use lean_items::{Bad, FeedKind};
-use report_pages::{Ended, PAGE, Stop, append_end, append_refusal, flush};
+use report_pages::{Ended, Page, Stop, append_end, append_refusal, flush};
 use std::alloc::Global;
 
 /// Prints the daily tape of some symbols, at most 64, over the files of a folder. Each file is read by a hand of its own,
@@ -38,6 +38,7 @@ pub fn print_daily<F: Folder, S: Sink>(
     ensures fault { IfOk result (λ ended. ended ≡ Ended.ReadFault
         → Rose (F.faults folder.old) (F.faults folder.new)) }
     ensures cause { IfErr result (HasCause (S.faults out.old) (S.faults out.new)) }
+    ensures hands { F.hands folder.new ≡ F.hands folder.old }
     ensures kept { F.files folder.new ≡ F.files folder.old }
     ensures grows { F.faults folder.old ≤ F.faults folder.new }
     ensures sink_grows { S.faults out.old ≤ S.faults out.new }
@@ -69,6 +70,7 @@ fn print_opened<F: Folder, S: Sink>(
         → IsReportFront (securities f symbols.now) (S.told out.old) (S.told out.new)) }
     ensures fault { IfOk result (λ ended. ended ≡ Ended.ReadFault → HasFaulted F.H.faults sources.new.items) }
     ensures cause { IfErr result (HasCause (S.faults out.old) (S.faults out.new)) }
+    ensures hands { F.hands folder.new ≡ F.hands folder.old + length sources.new.items }
     ensures kept { F.files folder.new ≡ F.files folder.old }
     ensures same { F.faults folder.new ≡ F.faults folder.old }
     ensures grows { S.faults out.old ≤ S.faults out.new }
@@ -95,10 +97,11 @@ fn print_tape<H: Hand, S: Sink>(
         → AllZip (Follows H.files H.rest f 0) all sources.old.items
         → IsReportFront all (S.told out.old) (S.told out.new)) }
     ensures fault { IfOk result (λ ended. ended ≡ Ended.ReadFault → HasFaulted H.faults sources.new.items) }
+    ensures same { length sources.new.items ≡ length sources.old.items }
     ensures cause { IfErr result (HasCause (S.faults out.old) (S.faults out.new)) }
     ensures grows { S.faults out.old ≤ S.faults out.new }
 {
-    let mut page = Vec::with_capacity(alloc, PAGE)?;
+    let mut page = Page::new(alloc)?;
     let ending = print_rows(sources, &mut page, out)?;
     let ended = append_last(alloc, sources, ending, &mut page)?;
     flush(&mut page, out)?;
@@ -110,17 +113,18 @@ fn append_last<H: Hand>(
     alloc: Global,
     sources: &[Source<H>],
     ending: Ending,
-    page: &mut Vec<u8>,
+    page: &mut Page,
 ) -> Result<Ended, NoMemory>
     requires stopped { HasStopped sources.now ending }
+    requires room { HasRoom page.old }
     requires sound { AllByRecursion (IsSound H.is_open H.faults) sources.now }
     ensures last { IfOk result (λ ended. (last : List ℕ)
-        × (page.new.items ≡ page.old.items ++ last) × IsLast sources.now ending ended last) }
+        × (page.new ≡ page.old ++ last) × IsLast sources.now ending ended last) }
     ensures fault { IfOk result (λ ended. ended ≡ Ended.ReadFault → HasFaulted H.faults sources.now) }
 {
     match ending {
         Ending::Whole(rows) => {
-            append_end(rows, page)?;
+            append_end(rows, page);
             Ok(Ended::Done)
         }
         Ending::Stopped(place) => append_stop(alloc, &sources[place], page),
@@ -131,11 +135,12 @@ fn append_last<H: Hand>(
 fn append_stop<H: Hand>(
     alloc: Global,
     source: &Source<H>,
-    page: &mut Vec<u8>,
+    page: &mut Page,
 ) -> Result<Ended, NoMemory>
-    requires { Stops source.now.head }
+    requires stops { Stops source.now.head }
+    requires room { HasRoom page.old }
     ensures last { IfOk result (λ ended. (last : List ℕ)
-        × (page.new.items ≡ page.old.items ++ last) × IsLastAt source.now.symbol source.now.head ended last) }
+        × (page.new ≡ page.old ++ last) × IsLastAt source.now.symbol source.now.head ended last) }
     ensures fault { IfOk result (λ ended. ended ≡ Ended.ReadFault → source.now.head ≡ Head.Faulted) }
 {
     match source.head {

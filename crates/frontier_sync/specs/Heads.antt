@@ -6,7 +6,7 @@ use Rattle.lean_items.specs.declared.arrival.Arrival.{Arrival}
 use Rattle.lean_items.specs.declared.feed_no.FeedNo.{FeedNo}
 use Rattle.lean_items.specs.declared.item.Item.{Item}
 use Rattle.lean_items.specs.declared.item.Item.TheVariants.{Bar, Coarse, Bad, Faulted, End}
-use Rattle.lean_items.specs.Fits.{is_bar_in_range, is_row_in_range}
+use Rattle.lean_items.specs.Fits.{fits, is_bar_in_range, is_row_in_range}
 use Rattle.lean_items.specs.Given.{IsRow, end_of}
 
 -- a feed gave an item
@@ -74,3 +74,8 @@ fits_first start (Coarse at row) = int_lt start at.0 && is_row_in_range at.0 row
 fits_first start (Bad bad) = true
 fits_first start Faulted = true
 fits_first start End = true
+
+-- the same, or an item that may come behind one that ends at a moment
+abbrev pub fits_by : Bool → ℤ → Item → Bool
+fits_by true start item = fits_first start item
+fits_by false after item = fits after item

@@ -3,3 +3,4 @@ pub mod Slices
 pub mod Rising
 pub mod Stands
 pub mod Stays
+pub mod Seen

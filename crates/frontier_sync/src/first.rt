@@ -1,5 +1,5 @@
 //! The first head of a feed.
-ghost use Rattle.std.specs.Prelude.{◌≡◌, ◌<◌, ◌≤◌, ◌==◌, true, false, not, if◌then◌else◌, ℕ, List, [], ◌∷◌, ◌++◌};
+ghost use Rattle.std.specs.Prelude.{◌≡◌, ◌==◌, true, false, not, if◌then◌else◌, ℕ, List, [], ◌∷◌, ◌++◌};
 ghost use Rattle.std.specs.List.{All};
 ghost use Rattle.lean_items.specs.declared.item.Item.{Item as GivenItem};
 ghost use Rattle.lean_items.specs.Given.{is_last};
@@ -7,7 +7,7 @@ ghost use Rattle.frontier_sync.specs.Heads.{fits_first};
 ghost use Rattle.frontier_sync.specs.Slices.{TakesOfOne};
 ghost use Rattle.frontier_sync.specs.Stays.{Stays};
 
-use crate::fits::{is_bar_in_range, is_row_in_range};
+use crate::taking::take_fitting;
 use lean_fixed::Moment;
 use lean_items::{FeedNo, Item, Pool};
 
@@ -23,23 +23,5 @@ pub fn first_head<P: Pool>(pool: &mut P, feed: FeedNo, start: Moment) -> Item
     ensures added { P.added pool.new ≡ P.added pool.old }
     ensures stays { Stays P.files P.lists P.faults P.place pool.old pool.new }
 {
-    'taken: loop {
-        let item = pool.take(feed);
-        if fits_first(start, &item) {
-            return item;
-        }
-    }
-}
-
-// Whether an item may be the first head of a feed.
-fn fits_first(start: Moment, item: &Item) -> bool
-    ensures { result ≡ fits_first start.0 item.now }
-{
-    match item {
-        Item::Bar(bar) => start.0 < bar.end.0 && is_bar_in_range(bar),
-        Item::Coarse(at, row) => start.0 < at.0 && is_row_in_range(*at, row),
-        Item::Bad(_) => true,
-        Item::Faulted => true,
-        Item::End => true,
-    }
+    take_fitting(pool, feed, start, true)
 }

@@ -54,10 +54,11 @@ HasRefused line before after WriteFault = IsFront before after line
 HasRefused line before after _ = ⊥
 
 -- What a call has done whatever is told, from the folder and the sink before it to those after it: a fault of the outside that
--- is its status was counted, what the folder tells stays, and no count falls.
-pub record Went {F S : Type 0} (told : F → Option Files) (folder_faults : F → ℕ) (sink_faults : S → ℕ)
+-- is its status was counted, all hands were given back, what the folder tells stays, and no count falls.
+pub record Went {F S : Type 0} (told : F → Option Files) (hands folder_faults : F → ℕ) (sink_faults : S → ℕ)
     (folder folder_now : F) (sink sink_now : S) (status : Status) : Type 0 where
   pub cause : HasStatusCause (folder_faults folder) (folder_faults folder_now) (sink_faults sink) (sink_faults sink_now) status
+  pub back : hands folder_now ≡ hands folder
   pub kept : told folder_now ≡ told folder
   pub folder_grows : folder_faults folder ≤ folder_faults folder_now
   pub sink_grows : sink_faults sink ≤ sink_faults sink_now

@@ -30,7 +30,7 @@ pub fn run<F: Folder, S: Sink>(
         → HasUsage (S.told out.old) (S.told out.new) result }
     ensures taken { (asked : Asked)
         → command (map string_bytes words.now) ≡ Some asked → NamesNoUsage result }
-    ensures went { Went F.files F.faults S.faults folder.old folder.new out.old out.new result }
+    ensures went { Went F.files F.hands F.faults S.faults folder.old folder.new out.old out.new result }
 {
     match read_words(alloc, words) {
         Ok(Some(command)) => run_command(alloc, &command, folder, out),
@@ -51,7 +51,7 @@ fn run_command<F: Folder, S: Sink>(
         → HasReported (report_of f (Some (asked_by command.now))) (AreWholeSteps f (Some (asked_by command.now)))
         (S.told out.old) (S.told out.new) result }
     ensures taken { NamesNoUsage result }
-    ensures went { Went F.files F.faults S.faults folder.old folder.new out.old out.new result }
+    ensures went { Went F.files F.hands F.faults S.faults folder.old folder.new out.old out.new result }
 {
     match command {
         Command::DailyTape(symbols) => daily_tape(alloc, symbols, folder, out),
@@ -73,7 +73,7 @@ fn daily_tape<F: Folder, S: Sink>(
         → HasReported (daily_report_of (tape (securities f symbols.now))) (AreDaysOf (securities f symbols.now))
         (S.told out.old) (S.told out.new) result }
     ensures taken { NamesNoUsage result }
-    ensures went { Went F.files F.faults S.faults folder.old folder.new out.old out.new result }
+    ensures went { Went F.files F.hands F.faults S.faults folder.old folder.new out.old out.new result }
 {
     days_are_a_front();
     let ended = print_daily(alloc, symbols, folder, out);

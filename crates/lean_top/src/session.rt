@@ -37,7 +37,7 @@ pub fn session_tape<F: Folder, S: Sink>(
         → HasReported (report_of f (Some (SessionTape resolution window symbols.now)))
         (AreWholeSteps f (Some (SessionTape resolution window symbols.now))) (S.told out.old) (S.told out.new) result }
     ensures taken { NamesNoUsage result }
-    ensures went { Went F.files F.faults S.faults folder.old folder.new out.old out.new result }
+    ensures went { Went F.files F.hands F.faults S.faults folder.old folder.new out.old out.new result }
 {
     match read_hours(alloc, folder) {
         Ok(HoursRead::Read(hours)) => {
@@ -66,7 +66,7 @@ fn tape_by<F: Folder, S: Sink>(
         (AreMinutesBy (session_sources f hours resolution window symbols.now) window)
         (S.told out.old) (S.told out.new) result }
     ensures taken { NamesNoUsage result }
-    ensures went { Went F.files F.faults S.faults folder.old folder.new out.old out.new result }
+    ensures went { Went F.files F.hands F.faults S.faults folder.old folder.new out.old out.new result }
 {
     match Arc::new(alloc, hours) {
         Ok(hours) => tape_over(alloc, hours, resolution, window, symbols, folder, out),
@@ -92,7 +92,7 @@ fn tape_over<F: Folder, S: Sink>(
         (AreMinutesBy (session_sources f (arc_value hours) resolution window symbols.now) window)
         (S.told out.old) (S.told out.new) result }
     ensures taken { NamesNoUsage result }
-    ensures went { Went F.files F.faults S.faults folder.old folder.new out.old out.new result }
+    ensures went { Went F.files F.hands F.faults S.faults folder.old folder.new out.old out.new result }
 {
     sessions_lie(&hours);
     minutes_are_a_front();

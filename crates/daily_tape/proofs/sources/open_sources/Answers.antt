@@ -28,6 +28,7 @@ loop-symbol-preserved g c =
       c.in_ok-source.ensures.kept ∙ c.loop-symbol.invariant.4,
       c.in_ok-source.ensures.same ∙ c.loop-symbol.invariant.5,
       room,
+      omega (arith, ap length items, length-append c.loop-symbol.sources.items (c.in_ok-source.source ∷ []), c.in_ok-source.ensures.out, c.loop-symbol.invariant.7),
     )
 
 pub returns-clause-told : goal.returns-clause-told

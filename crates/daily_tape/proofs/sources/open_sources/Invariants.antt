@@ -1,4 +1,4 @@
-use Rattle.std.proofs.Common.{◌≡◌, ◌≤◌, Some, take, length}
+use Rattle.std.proofs.Common.{◌≡◌, ◌+◌, ◌≤◌, Some, take, length}
 use Rattle.std.specs.Prelude.{vec_capacity}
 use Rattle.std.specs.List.{AllByRecursion, AllZip}
 use Rattle.lean_io.specs.Told.{Files}
@@ -17,3 +17,4 @@ invariant-loop-symbol g l =
     × (g.F.Folder.files l.folder ≡ g.F.Folder.files l.fn.folder)
     × (g.F.Folder.faults l.folder ≡ g.F.Folder.faults l.fn.folder)
     × (length l.symbols ≤ vec_capacity l.sources)
+    × (g.F.Folder.hands l.folder ≡ g.F.Folder.hands l.fn.folder + length l.sources.items)

@@ -5,7 +5,7 @@ use Rattle.daily_tape.proofs.tape.append_last.Goals as goal
 pub returns-in-Stopped-clause-last : goal.returns-in-Stopped-clause-last
 returns-in-Stopped-clause-last g c =
     last_of_stop c.args.sources.now c.args.ending c.in-Stopped.place c.in-Stopped.is c.requires.stopped c.index-sources-place.result c.index-sources-place.is
-    c.args.page.now.items c.append_stop.new.page.items c.append_stop.result c.append_stop.ensures.last
+    c.args.page.now c.append_stop.new.page c.append_stop.result c.append_stop.ensures.last
 
 pub returns-in-Stopped-clause-fault : goal.returns-in-Stopped-clause-fault
 returns-in-Stopped-clause-fault g c =

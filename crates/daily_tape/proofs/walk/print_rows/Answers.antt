@@ -1,8 +1,7 @@
 -- Step by step, until a head ends the tape or none is left.
-use Rattle.std.proofs.Common.{◌+◌, ◌<◌, ◌≤◌, arith, sym, subst}
+use Rattle.std.proofs.Common.{◌+◌, ◌<◌, ◌≤◌, arith, refl, sym, ◌∙◌, subst}
 use Rattle.lean_fixed.specs.Calendar.{last_day}
 use Rattle.daily_tape.specs.Steps.{AllAhead, AllPast}
-use Rattle.report_pages.proofs.PrintedLemmas.{on_err}
 use Rattle.daily_tape.proofs.Walking.{walked-start, walked-more, walked-front, walked-end, walked-stop}
 use Rattle.daily_tape.proofs.walk.print_rows.Goals as goal
 
@@ -12,20 +11,19 @@ steps-init g c = (
   c.requires.past,
   omega arith,
   omega arith,
-  c.requires.few,
+  refl,
   c.requires.room,
   omega arith,
-  λ f all follows. walked-start g.H.Hand.files g.H.Hand.rest f all c.args.sources.now.items (g.S.Sink.told c.args.out.now) c.args.page.now.items follows,
+  λ f all follows. walked-start g.H.Hand.files g.H.Hand.rest f all c.args.sources.now.items (g.S.Sink.told c.args.out.now) c.args.page.now follows,
 )
 
-pub returns-in_err-rows-in-Step-clause-front : goal.returns-in_err-rows-in-Step-clause-front
-returns-in_err-rows-in-Step-clause-front g c =
+pub returns-in-Err-clause-front : goal.returns-in-Err-clause-front
+returns-in-Err-clause-front g c =
     let ahead : AllAhead c.in-Step.step c.steps.sources.items = subst (AllAhead c.in-Step.step) c.deref.ensures.value c.in-Step.ensures.next.0 in
     let past : AllPast c.steps.done c.deref.result.now = subst (AllPast c.steps.done) (sym c.deref.ensures.value) c.steps.invariant.1 in
     let later : c.steps.done < c.in-Step.step = c.in-Step.ensures.later c.steps.done c.steps.invariant.2 past in
-    on_err c.from_residual.result _
-    (λ f all follows. walked-front g.H.Hand.files g.H.Hand.rest f all c.steps.sources.items c.steps.done c.steps.rows (g.S.Sink.told c.args.out.now) (g.S.Sink.told c.steps.out) c.args.page.now.items c.steps.page.items
-    (c.steps.invariant.7 f all follows) c.in-Step.step (g.S.Sink.told c.print_step.new.out) ahead later c.in-Step.ensures.next.1 c.in_err-rows-in-Step.ensures.front)
+    λ f all follows. walked-front g.H.Hand.files g.H.Hand.rest f all c.steps.sources.items c.steps.done c.steps.rows (g.S.Sink.told c.args.out.now) (g.S.Sink.told c.steps.out) c.args.page.now c.steps.page
+    (c.steps.invariant.7 f all follows) c.in-Step.step (g.S.Sink.told c.print_step.new.out) ahead later c.in-Step.ensures.next.1 c.in-Err.ensures.prints.0
 
 pub steps-smaller : goal.steps-smaller
 steps-smaller g c =
@@ -39,18 +37,18 @@ steps-preserved g c =
     let ahead : AllAhead c.in-Step.step c.steps.sources.items = subst (AllAhead c.in-Step.step) c.deref.ensures.value c.in-Step.ensures.next.0 in
     let past : AllPast c.steps.done c.deref.result.now = subst (AllPast c.steps.done) (sym c.deref.ensures.value) c.steps.invariant.1 in
     let later : c.steps.done < c.in-Step.step = c.in-Step.ensures.later c.steps.done c.steps.invariant.2 past in (
-      c.in_ok-rows-in-Step.ensures.sound,
-      c.in_ok-rows-in-Step.ensures.past,
+      c.in-Ok.ensures.sound,
+      c.in-Ok.ensures.past,
       c.in-Step.ensures.next.1,
-      omega (arith, c.steps.invariant.3, c.in_ok-rows-in-Step.ensures.few, later),
-      omega (arith, c.in_ok-rows-in-Step.ensures.same, c.steps.invariant.4),
-      c.in_ok-rows-in-Step.ensures.room,
-      omega (arith, c.steps.invariant.6, c.in_ok-rows-in-Step.ensures.grows),
+      omega (arith, c.steps.invariant.3, c.in-Ok.ensures.few, later),
+      c.in-Ok.ensures.same ∙ c.steps.invariant.4,
+      c.in-Ok.ensures.prints.1,
+      omega (arith, c.steps.invariant.6, c.in-Ok.ensures.prints.2),
       λ f all follows.
           (let w = c.steps.invariant.7 f all follows in
-          walked-more g.H.Hand.files g.H.Hand.rest f all c.steps.sources.items c.steps.done c.steps.rows (g.S.Sink.told c.args.out.now) (g.S.Sink.told c.steps.out) c.args.page.now.items c.steps.page.items w
-          c.in-Step.step c.in_ok-rows-in-Step.field-0 c.print_step.new.sources.items (g.S.Sink.told c.print_step.new.out) c.print_step.new.page.items ahead later
-          (c.in_ok-rows-in-Step.ensures.follows f c.steps.done all later w.follows) c.in_ok-rows-in-Step.ensures.counted c.in_ok-rows-in-Step.ensures.printed),
+          walked-more g.H.Hand.files g.H.Hand.rest f all c.steps.sources.items c.steps.done c.steps.rows (g.S.Sink.told c.args.out.now) (g.S.Sink.told c.steps.out) c.args.page.now c.steps.page w
+          c.in-Step.step c.in-Ok.printed c.print_step.new.sources.items (g.S.Sink.told c.print_step.new.out) c.print_step.new.page ahead later
+          (c.in-Ok.ensures.follows f c.steps.done all later w.follows) c.in-Ok.ensures.counted c.in-Ok.ensures.prints.0),
     )
 
 pub returns-in-Stop-clause-told : goal.returns-in-Stop-clause-told
@@ -59,7 +57,7 @@ returns-in-Stop-clause-told g c f all follows =
     record {
       rows = w.lines;
       printed = w.printed;
-      ends = walked-stop g.H.Hand.files g.H.Hand.rest f all c.steps.sources.items c.steps.done c.steps.rows (g.S.Sink.told c.args.out.now) (g.S.Sink.told c.steps.out) c.args.page.now.items c.steps.page.items w
+      ends = walked-stop g.H.Hand.files g.H.Hand.rest f all c.steps.sources.items c.steps.done c.steps.rows (g.S.Sink.told c.args.out.now) (g.S.Sink.told c.steps.out) c.args.page.now c.steps.page w
           c.in-Stop.place c.steps.invariant.2 c.steps.invariant.1;
     }
 
@@ -71,7 +69,7 @@ returns-in-End-clause-told g c f all follows =
       rows = w.lines;
       printed = w.printed;
       ends = (
-        walked-end g.H.Hand.files g.H.Hand.rest f all c.steps.sources.items c.steps.done c.steps.rows (g.S.Sink.told c.args.out.now) (g.S.Sink.told c.steps.out) c.args.page.now.items c.steps.page.items w
+        walked-end g.H.Hand.files g.H.Hand.rest f all c.steps.sources.items c.steps.done c.steps.rows (g.S.Sink.told c.args.out.now) (g.S.Sink.told c.steps.out) c.args.page.now c.steps.page w
             c.steps.invariant.2 ahead,
         w.counted,
       );

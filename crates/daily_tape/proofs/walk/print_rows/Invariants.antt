@@ -15,11 +15,11 @@ invariant-steps g l =
     × AllPast l.done l.sources.items
     × (l.done ≤ last_day + 1)
     × (l.rows ≤ 64 * l.done)
-    × (length l.sources.items ≤ 64)
-    × HasRoom l.page.items
+    × (length l.sources.items ≡ length l.fn.sources.items)
+    × HasRoom l.page
     × (g.S.Sink.faults l.fn.out ≤ g.S.Sink.faults l.out)
     × ((f : Files) (all : List Security) → AllZip (Follows g.H.Hand.files g.H.Hand.rest f 0) all l.fn.sources.items
-    → Walked g.H.Hand.files g.H.Hand.rest f all l.sources.items l.done l.rows (g.S.Sink.told l.fn.out) (g.S.Sink.told l.out) l.fn.page.items l.page.items)
+    → Walked g.H.Hand.files g.H.Hand.rest f all l.sources.items l.done l.rows (g.S.Sink.told l.fn.out) (g.S.Sink.told l.out) l.fn.page l.page)
 
 abbrev pub decreases-steps : goal.decreases-steps
 decreases-steps g l = last_day + 2 - l.done

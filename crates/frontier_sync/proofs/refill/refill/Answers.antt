@@ -25,7 +25,7 @@ pub items-preserved : goal.items-preserved
 items-preserved g c =
     let inv = c.items.invariant in
     let (taken, given, sofar, out, stands) = inv.took in
-    let next = c.take_next-head in
+    let next = c.take_fitting-head in
     let (passed, misfits, takes) = next.ensures.took in
     let first = c.args.pool.now in
     let now = c.items.pool in

@@ -1,18 +1,18 @@
--- The items that were taken so far end by the start.
+-- The items that were taken so far do not fit.
 use Rattle.std.proofs.Common.{◌≡◌, ℕ, ◌≤◌, false, List}
 use Rattle.std.specs.List.{All}
 use Rattle.lean_items.specs.declared.item.Item.{Item}
-use Rattle.frontier_sync.specs.Heads.{fits_first}
+use Rattle.frontier_sync.specs.Heads.{fits_by}
 use Rattle.frontier_sync.specs.Slices.{TakesOfOne}
 use Rattle.frontier_sync.specs.Stays.{Stays}
-use Rattle.frontier_sync.proofs.first.first_head.Given as goal
+use Rattle.frontier_sync.proofs.taking.take_fitting.Given as goal
 
 abbrev pub invariant-taken : goal.invariant-taken
 invariant-taken g l =
     let first = l.fn.pool in
     let now = l.pool in
     record {
-      took : (passed : List Item) × All (λ item. fits_first l.start.0 item ≡ false) passed
+      took : (passed : List Item) × All (λ item. fits_by l.first l.after.0 item ≡ false) passed
           × TakesOfOne (g.P.Pool.stands first) (g.P.Pool.stands now) l.feed.0 passed;
       opened : (n : ℕ) → g.P.Pool.is_open now n ≡ g.P.Pool.is_open first n;
       fewer : g.P.Pool.room now l.feed.0 ≤ g.P.Pool.room first l.feed.0;
