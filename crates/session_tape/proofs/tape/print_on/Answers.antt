@@ -36,8 +36,8 @@ returns-in-Ok-clause-fault g c =
     let (n, taken, at, has) : HasFaulted now = subst (λ ending. IfFaulted (Ok ending) (HasFaulted now)) (was fault) faulted in
     c.finish.ensures.rose before now stands_now n taken at has)) c.end.ensures.fault
 
-pub returns-clause-front : goal.returns-clause-front
-returns-clause-front g c before lists f hours stand is are =
+pub returns-in-Err-clause-front : goal.returns-in-Err-clause-front
+returns-in-Err-clause-front g c before lists f hours stand is are =
     let told0 = g.S.Sink.told c.args.out.now in
     let told = g.S.Sink.told c.walk_feeds-walked.new.out in
     let (now, stands_now, faulted, walks) = c.in-Err.ensures.stands before stand in
@@ -51,7 +51,7 @@ returns-in-Ok-clause-hands g c before stand =
     let (now, stands_now, faulted, walks) = c.in-Ok.ensures.stands before stand in
     c.finish.ensures.hands before now stands_now
 
-pub returns-clause-hands : goal.returns-clause-hands
-returns-clause-hands g c before stand =
+pub returns-in-Err-clause-hands : goal.returns-in-Err-clause-hands
+returns-in-Err-clause-hands g c before stand =
     let (now, stands_now, faulted, walks) = c.in-Err.ensures.stands before stand in
     c.finish.ensures.hands before now stands_now
