@@ -31,9 +31,9 @@ pub enum HoursRead {
 pub fn read_hours<F: Folder>(alloc: Global, folder: &mut F) -> Result<HoursRead, NoMemory>
     ensures told { IfOk result (λ read. (f : Files) → F.files folder.old ≡ Some f → GivesHours (f hours_path) read) }
     ensures cause { IfOk result (λ read. HasHoursCause (F.faults folder.old) (F.faults folder.new) read) }
-    ensures back { F.hands folder.new ≡ F.hands folder.old }
     ensures kept { F.files folder.new ≡ F.files folder.old }
     ensures grows { F.faults folder.old ≤ F.faults folder.new }
+    ensures hands { F.hands folder.new ≡ F.hands folder.old }
 {
     let mut hand = folder.hand(alloc)?;
     let read = hours_by(alloc, &mut hand);
