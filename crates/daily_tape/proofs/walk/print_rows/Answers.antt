@@ -2,6 +2,7 @@
 use Rattle.std.proofs.Common.{◌+◌, ◌<◌, ◌≤◌, arith, refl, sym, ◌∙◌, subst}
 use Rattle.lean_fixed.specs.Calendar.{last_day}
 use Rattle.daily_tape.specs.Steps.{AllAhead, AllPast}
+use Rattle.report_pages.proofs.PrintedLemmas.{cause-earlier}
 use Rattle.daily_tape.proofs.Walking.{walked-start, walked-more, walked-front, walked-end, walked-stop}
 use Rattle.daily_tape.proofs.walk.print_rows.Goals as goal
 
@@ -24,6 +25,13 @@ returns-in-Err-clause-front g c =
     let later : c.steps.done < c.in-Step.step = c.in-Step.ensures.later c.steps.done c.steps.invariant.2 past in
     λ f all follows. walked-front g.H.Hand.files g.H.Hand.rest f all c.steps.sources.items c.steps.done c.steps.rows (g.S.Sink.told c.args.out.now) (g.S.Sink.told c.steps.out) c.args.page.now c.steps.page
     (c.steps.invariant.7 f all follows) c.in-Step.step (g.S.Sink.told c.print_step.new.out) ahead later c.in-Step.ensures.next.1 c.in-Err.ensures.prints.0
+
+pub returns-in-Err-clause-cause : goal.returns-in-Err-clause-cause
+returns-in-Err-clause-cause g c =
+    cause-earlier (g.S.Sink.faults c.args.out.now) (g.S.Sink.faults c.steps.out) (g.S.Sink.faults c.print_step.new.out) c.in-Err.stop c.steps.invariant.6 c.in-Err.ensures.prints.1
+
+pub returns-in-Err-clause-grows : goal.returns-in-Err-clause-grows
+returns-in-Err-clause-grows g c = omega (arith, c.steps.invariant.6, c.in-Err.ensures.prints.2)
 
 pub steps-smaller : goal.steps-smaller
 steps-smaller g c =

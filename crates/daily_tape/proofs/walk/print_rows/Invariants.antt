@@ -1,4 +1,4 @@
-use Rattle.std.proofs.Common.{◌+◌, ◌-◌, ◌*◌, ◌≤◌, List, length}
+use Rattle.std.proofs.Common.{◌≡◌, ◌+◌, ◌-◌, ◌*◌, ◌≤◌, List, length}
 use Rattle.std.specs.List.{AllByRecursion, AllZip}
 use Rattle.lean_fixed.specs.Calendar.{last_day}
 use Rattle.lean_io.specs.Told.{Files}
