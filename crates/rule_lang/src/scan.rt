@@ -7,7 +7,7 @@ ghost use Rattle.lean_fixed.specs.Digits.{is_digit, value_of};
 ghost use Rattle.rule_lang.specs.Tokens.{front_of, lexeme_among, sign_at, word_at, numeral, number_at, places_at, table, tokens, IsWithin};
 ghost use Rattle.rule_lang.specs.Reading.{Gives};
 
-use crate::token::{Front, Kind, Name, Op, Token};
+use crate::token::{Arithmetic, Comparison, Front, Kind, Name, Op, Token};
 use crate::{RuleError, RuleFault};
 use bar_windows::Func;
 use std::alloc::Global;
@@ -36,16 +36,16 @@ const WORDS: [(&[u8], Kind); 18] = [
 
 /// Its signs, the longer before those that they begin with.
 const SIGNS: [(&[u8], Kind); 12] = [
-    (b"<=", Kind::Operator(Op::AtMost)),
-    (b"<", Kind::Operator(Op::Less)),
-    (b">=", Kind::Operator(Op::AtLeast)),
-    (b">", Kind::Operator(Op::Greater)),
-    (b"==", Kind::Operator(Op::Equal)),
-    (b"!=", Kind::Operator(Op::Unequal)),
-    (b"+", Kind::Operator(Op::Plus)),
-    (b"-", Kind::Operator(Op::Minus)),
-    (b"*", Kind::Operator(Op::Times)),
-    (b"/", Kind::Operator(Op::Over)),
+    (b"<=", Kind::Operator(Op::Compare(Comparison::AtMost))),
+    (b"<", Kind::Operator(Op::Compare(Comparison::Less))),
+    (b">=", Kind::Operator(Op::Compare(Comparison::AtLeast))),
+    (b">", Kind::Operator(Op::Compare(Comparison::Greater))),
+    (b"==", Kind::Operator(Op::Compare(Comparison::Equal))),
+    (b"!=", Kind::Operator(Op::Compare(Comparison::Unequal))),
+    (b"+", Kind::Operator(Op::Compute(Arithmetic::Plus))),
+    (b"-", Kind::Operator(Op::Compute(Arithmetic::Minus))),
+    (b"*", Kind::Operator(Op::Compute(Arithmetic::Times))),
+    (b"/", Kind::Operator(Op::Compute(Arithmetic::Over))),
     (b"(", Kind::Opening),
     (b")", Kind::Closing),
 ];
