@@ -1,6 +1,7 @@
 //! Worked session tapes through both top calls, over folders and sinks in memory that fail at chosen calls.
-use crate::tests::{check_tapes, check_writes, compare, failing_folder, offline};
+use crate::tests::{check_tapes, check_writes, failing_folder, offline};
 use std::test::Fail;
+use test_cases::cases::{compare, parts_of};
 
 const TAPES: &str = "\
 tape minute 20131007 20131007 SPY, hours:usual 07/spy:34140000*1;34200000*2;57540000*3;57600000*4; = 0 20131007 09:31 SPY*2;20131007 16:00 SPY*3;end 2 rows;
@@ -48,7 +49,7 @@ hours 1 = 4
 fn failing_session_reads(rt: HostRuntime) -> Result<(), Fail> {
     let alloc = rt.alloc();
     for case in FAILING_READS.lines() {
-        let (input, wanted) = case.split_once(" = ").ok_or("no answer")?;
+        let (input, wanted) = parts_of(case)?;
         let (name, call) = input.split_once(' ').ok_or("no number")?;
         let mut folder = failing_folder(alloc, FILES, name, call)?;
         compare(

@@ -2,8 +2,7 @@
 ghost use Rattle.std.specs.Prelude.{◌≤◌};
 
 use crate::{Status, lean_main, lean_offline};
-use lean_fixed::NoMemory;
-use lean_io::{Failed, Folder, Hand, MemFolder, MemSink};
+use lean_io::{Folder, MemFolder, MemSink};
 use std::alloc::{AllocError, Global};
 use std::collections::BTreeMap;
 use std::fmt::Write;
@@ -11,62 +10,8 @@ use std::process::Abort;
 use std::sync::Wait;
 use std::test::Fail;
 use std::thread::Threads;
-
-/// A hand that reads one byte at a time.
-#[derive(Drop)]
-struct SlowHand<H> {
-    inner: H,
-}
-
-impl<H: Hand> Hand for SlowHand<H> {
-    ghost use Rattle.std.specs.Prelude.{None, []};
-
-    ghost files = { λ _. None };
-
-    ghost is_open = { λ h. H.is_open h.inner };
-
-    ghost rest = { λ _. [] };
-
-    ghost faults = { λ h. H.faults h.inner };
-
-    fn open_file(&mut self, path: &str) -> Result<bool, Failed> {
-        self.inner.open_file(path)
-    }
-
-    fn read(&mut self, into: &mut [u8]) -> Result<usize, Failed> {
-        let n = into.len().min(1);
-        self.inner.read(&mut into[..n])
-    }
-}
-
-/// A folder whose hands read one byte at a time.
-#[derive(Drop)]
-struct SlowFolder<F> {
-    inner: F,
-}
-
-impl<F: Folder + Drop> Folder for SlowFolder<F> {
-    ghost use Rattle.std.specs.Prelude.{None};
-
-    type H = SlowHand<F::H>;
-
-    ghost files = { λ _. None };
-
-    ghost faults = { λ f. F.faults f.inner };
-
-    ghost hands = { λ f. F.hands f.inner };
-
-    fn hand(&mut self, alloc: Global) -> Result<SlowHand<F::H>, NoMemory> {
-        match self.inner.hand(alloc) {
-            Ok(inner) => Ok(SlowHand { inner }),
-            Err(NoMemory) => Err(NoMemory),
-        }
-    }
-
-    fn take_back(&mut self, hand: SlowHand<F::H>) {
-        self.inner.take_back(hand.inner);
-    }
-}
+use test_cases::cases::{compare, parts_of};
+use test_cases::cut::SlowFolder;
 
 const USUAL: &str = "\
 {\"entries\":{\"Equity-usa-[*]\":{\
@@ -206,14 +151,6 @@ backtest a.toml --workers 65, daily/spy:20131007_00:00*1; = 1 usage;
 backtest a.toml -x, daily/spy:20131007_00:00*1; = 1 usage;
 ";
 
-// That an answer is the one that is wanted.
-pub(crate) fn compare(alloc: Global, input: &str, answer: &str, wanted: &str) -> Result<(), Fail> {
-    if answer == wanted {
-        return Ok(());
-    }
-    Err(format!(in alloc; "{input} is answered {answer}")?)?
-}
-
 // Each case through both calls, and through hands that read one byte at a time into a sink that takes one byte at a time.
 pub(crate) fn check_tapes<R: Abort + Threads + Wait + AllocGlobal + Copy + Send + Sync + 'static>(
     rt: &R,
@@ -221,7 +158,7 @@ pub(crate) fn check_tapes<R: Abort + Threads + Wait + AllocGlobal + Copy + Send 
 ) -> Result<(), Fail> {
     let alloc = rt.alloc();
     for case in cases.lines() {
-        let (input, wanted) = case.split_once(" = ").ok_or("no answer")?;
+        let (input, wanted) = parts_of(case)?;
         let (words, files) = input.split_once(", ").ok_or("no files")?;
         let mut folder = folder_of(alloc, files, Vec::new(alloc))?;
         compare(
@@ -277,7 +214,7 @@ const FAILING_READS: &str = "\
 fn failing_reads(rt: HostRuntime) -> Result<(), Fail> {
     let alloc = rt.alloc();
     for case in FAILING_READS.lines() {
-        let (input, wanted) = case.split_once(" = ").ok_or("no answer")?;
+        let (input, wanted) = parts_of(case)?;
         let (call, most) = input.split_once(' ').ok_or("no number")?;
         let mut folder = failing_folder(alloc, FILES, "daily/spy", call)?;
         let answer = if most == "1" {
