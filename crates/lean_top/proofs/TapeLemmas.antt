@@ -1,9 +1,9 @@
 -- What was printed of a tape is its report.
 use Rattle.std.proofs.Common.{◌≡◌, ℕ, List, refl, ap, subst}
-use Rattle.std.specs.Prelude.{Option, Some, Result, Ok, Err, IfOk, OnErr}
+use Rattle.std.specs.Prelude.{Option, Some, Result, Ok, Err, IfOk, IfErr, OnErr}
 use Rattle.lean_fixed.specs.declared.resolution.Resolution.{Resolution}
 use Rattle.lean_fixed.specs.declared.time.Window.{Window}
-use Rattle.lean_io.specs.Told.{Files}
+use Rattle.lean_io.specs.Told.{Files, Rose}
 use Rattle.clock_feeds.specs.Slices.{Source}
 use Rattle.clock_steps.specs.Runs.{IsFrontOf}
 use Rattle.daily_tape.specs.DailyTape.{Security, TapeRow, securities, tape, tape_text, tape_bytes}
@@ -11,13 +11,14 @@ use Rattle.daily_tape.specs.Endings.{IsReport as IsDailyReport, IsReportFront as
 use Rattle.daily_tape.specs.Whole.{IsWhole as IsWholeDays}
 use Rattle.report_pages.specs.declared.pages.Stop.{Stop}
 use Rattle.report_pages.specs.declared.pages.Stop.TheVariants as stop
+use Rattle.report_pages.specs.Printed.{HasCause}
 use Rattle.report_pages.specs.declared.ended.Ended.{Ended}
 use Rattle.report_pages.specs.declared.ended.Ended.TheVariants as ended
 use Rattle.session_tape.specs.Reports.{IsReport, IsReportFront}
 use Rattle.session_tape.specs.Session.{SessionBar, session, session_text, session_bytes}
 use Rattle.session_tape.specs.Whole.{IsWhole}
 use Rattle.lean_top.specs.declared.status.Status.{Status}
-use Rattle.lean_top.specs.Outcome.{HasReported, tape_status}
+use Rattle.lean_top.specs.Outcome.{HasReported, HasStatusCause, tape_status}
 use Rattle.lean_top.specs.Command.{Asked, DailyTape}
 use Rattle.lean_top.specs.Report.{report_of, AreWholeSteps, daily_report_of, AreDaysOf, session_report_of, AreMinutesBy, ended_status}
 
@@ -49,3 +50,12 @@ pub daily_asked : (files : Files) (asked : Asked) (symbols items : List (List �
     → HasReported (report_of files (Some asked)) (AreWholeSteps files (Some asked)) before after status
 daily_asked files asked symbols items before after status is same has =
     rw is (subst (λ l. HasReported (daily_report_of (tape (securities files l))) (AreDaysOf (securities files l)) before after status) same has)
+
+-- where a fault of the outside is the status of a tape, it was counted
+pub caused : (result : Result Ended Stop) (folder folder_now sink sink_now : ℕ) → IfOk result (λ (e : Ended). e ≡ ended.ReadFault → Rose folder folder_now)
+    → IfErr result (HasCause sink sink_now) → HasStatusCause folder folder_now sink sink_now (tape_status result)
+caused (Ok ended.Done) folder folder_now sink sink_now fault cause = tt
+caused (Ok ended.BadRow) folder folder_now sink sink_now fault cause = tt
+caused (Ok ended.ReadFault) folder folder_now sink sink_now fault cause = fault refl
+caused (Err stop.NoMemory) folder folder_now sink sink_now fault cause = tt
+caused (Err stop.WriteFault) folder folder_now sink sink_now fault cause = cause
