@@ -2,7 +2,7 @@ ghost use Rattle.std.specs.Prelude.{◌<◌, IfOk};
 ghost use Rattle.lean_fixed.specs.Ranges.{IsMoment};
 ghost use Rattle.clock_book.specs.Fitting.{IsFitting, IsPriceBar};
 
-use crate::cases::{answered, number, price, symbol, within};
+use crate::cases::{number, price, symbol, within};
 use exchange_hours::Hours;
 use lean_fixed::{Moment, Money, NoMemory, Price, Shares, Symbol, laws};
 use lean_orders::{Cause, Command, Kind, OrderEvent, PriceBar, Reply, Request, What};
@@ -12,6 +12,7 @@ use std::fmt::Write;
 use std::str;
 use std::sync::Arc;
 use std::test::Fail;
+use test_cases::cases::check;
 use trade_costs::Costs;
 
 // Monday to Friday, 09:30 to 16:00.
@@ -287,6 +288,5 @@ fn replies_of(alloc: Global, text: &str) -> Result<String, Fail> {
 
 #[test]
 fn books(rt: HostRuntime) -> Result<(), Fail> {
-    assert_eq!(rt; answered(rt.alloc(), BOOKS, replies_of)?.as_str(), BOOKS);
-    Ok(())
+    check(rt.alloc(), BOOKS, replies_of)
 }

@@ -1,12 +1,13 @@
 ghost use Rattle.fill_models.specs.FillPrice.{IsPriced};
 
-use crate::cases::{answered, costs, number, price, quantity, symbol, word};
+use crate::cases::{costs, number, price, quantity, symbol, word};
 use fill_models::try_fill;
 use lean_fixed::{Moment, Price, Shares};
 use lean_items::Bar;
 use lean_orders::{Kind, Order, OrderState};
 use std::alloc::Global;
 use std::test::Fail;
+use test_cases::cases::check;
 
 // The kind, the quantity and the price of an order that was placed at minute 600, and what a real bar of opening 100, high
 // 110, low 90 and closing 105 that ends at minute 601 does with it, with a slip of 2. Then other moments of the order and
@@ -104,8 +105,7 @@ fn fill(alloc: Global, text: &str) -> Result<String, Fail> {
 
 #[test]
 fn fills(rt: HostRuntime) -> Result<(), Fail> {
-    assert_eq!(rt; answered(rt.alloc(), FILLS, fill)?.as_str(), FILLS);
-    Ok(())
+    check(rt.alloc(), FILLS, fill)
 }
 
 // A limit or stop order without a price fills at no bar.

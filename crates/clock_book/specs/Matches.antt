@@ -1,7 +1,10 @@
--- A match: which live orders are filled by the bars since the last one.
-use Rattle.std.specs.Prelude.{is_some, if◌then◌else◌, List, ◌++◌, length, map, Option, Some, None, option_map, option_and_then}
+-- A match: which live orders are triggered and filled by the bars since the last one.
+use Rattle.std.specs.Prelude.{is_some, Bool, true, false, ◌&&◌, if◌then◌else◌, List, ◌++◌, length, map, Option, Some, None, option_map, option_and_then}
 use Rattle.std.specs.List.{filter_map}
+use Rattle.std.specs.Option.{option_map_or}
 use Rattle.lean_fixed.specs.declared.time.Moment.{Moment}
+use Rattle.lean_orders.specs.declared.order.Kind.{Kind}
+use Rattle.lean_orders.specs.declared.order.Kind.TheVariants.{Market, Limit, Stop, AtOpen, StopLimit}
 use Rattle.lean_orders.specs.declared.order.Order.{Order}
 use Rattle.lean_orders.specs.declared.order.OrderState.{OrderState}
 use Rattle.lean_orders.specs.declared.order.OrderState.TheVariants.{Filled}
@@ -10,9 +13,30 @@ use Rattle.lean_orders.specs.declared.event.What.TheVariants as what
 use Rattle.lean_orders.specs.declared.desk.PriceBar.{PriceBar}
 use Rattle.lean_orders.specs.declared.desk.Reply.{Reply}
 use Rattle.lean_orders.specs.declared.desk.Reply.TheVariants.{Event}
-use Rattle.fill_models.specs.FillPrice.{fill_price}
+use Rattle.fill_models.specs.FillPrice.{triggers, fill_price}
 use Rattle.clock_book.specs.Books.{Book, is_live, bar_to_try, table_bar, opening_of}
 use Rattle.clock_book.specs.Submits.{fill_at}
+
+-- the bar on which a live order is tried
+abbrev pub bar_of : Book → Order → Option PriceBar
+bar_of book order = if is_live order.state then bar_to_try book order.symbol else None
+
+abbrev pub is_stop_limit : Kind → Bool
+is_stop_limit Market = false
+is_stop_limit Limit = false
+is_stop_limit Stop = false
+is_stop_limit AtOpen = false
+is_stop_limit StopLimit = true
+
+-- a bar triggers a stop-limit order, if the bar's day has a session
+abbrev pub triggers_by : Book → Order → PriceBar → Bool
+triggers_by book order bar =
+    is_stop_limit order.kind && (is_some (opening_of book.hours bar.start.0) && triggers order (table_bar bar))
+
+-- a stop-limit order that the bar triggers becomes triggered first, whether it then fills or not
+abbrev pub after_trigger : Book → Order → Order
+after_trigger book order =
+    if option_map_or (triggers_by book order) (bar_of book order) false then record order { triggered = true } else order
 
 -- the fill of an order by a bar, if the bar's day has a session and the fill table has a price
 abbrev pub fill_by : Book → Order → PriceBar → Option Fill
@@ -22,24 +46,16 @@ fill_by book order bar =
 
 -- the fill of an order in a match
 abbrev pub matched : Book → Order → Option Fill
-matched book order =
-    if is_live order.state then option_and_then (fill_by book order) (bar_to_try book order.symbol) else None
+matched book order = option_and_then (fill_by book (after_trigger book order)) (bar_of book order)
 
 -- an order in another state
 abbrev pub in_state : OrderState → Order → Order
-in_state state order =
-    record {
-      id = order.id;
-      symbol = order.symbol;
-      kind = order.kind;
-      quantity = order.quantity;
-      price = order.price;
-      placed = order.placed;
-      state = state;
-    }
+in_state state order = record order { state = state }
 
+-- an order after a match
 abbrev pub after_match : Book → Order → Order
-after_match book order = if is_some (matched book order) then in_state Filled order else order
+after_match book order =
+    if is_some (matched book order) then in_state Filled (after_trigger book order) else after_trigger book order
 
 -- what is said of a fill
 abbrev pub filled_event : Moment → Order → Fill → Reply
@@ -54,12 +70,7 @@ match_events book at = filter_map (match_event book at) book.orders
 
 abbrev pub book_after_match : Book → Book
 book_after_match book =
-    record {
-      start = book.start;
-      costs = book.costs;
-      leverage = book.leverage;
-      hours = book.hours;
-      marks = book.marks;
+    record book {
       orders = map (after_match book) book.orders;
       fills = book.fills ++ filter_map (matched book) book.orders;
       tried = length book.marks;
