@@ -1,6 +1,5 @@
 -- What was given of a feed stays what it is while the feed gives its next item.
-use Rattle.std.proofs.Common.{◌≡◌, ℕ, ◌+◌, ◌≤◌, Bool, true, false, List, [], ◌∷◌, ◌++◌, Option, Some, None, inl, inr, refl, sym, ap, ◌∙◌, subst, append_assoc, arith}
-use Rattle.std.specs.Prelude.{◌^◌, ◌-◌, min}
+use Rattle.std.proofs.Common.{◌≡◌, ℕ, ◌≤◌, Bool, true, false, List, [], ◌∷◌, ◌++◌, Option, Some, None, inl, inr, refl, sym, ap, ◌∙◌, subst, append_assoc, arith}
 use Rattle.std.specs.List.{All, Contains}
 use Rattle.std.proofs.lemmas.Bool.{false≢true}
 use Rattle.std.proofs.lemmas.List.{append-nil}
@@ -9,7 +8,6 @@ use Rattle.lean_fixed.specs.Counts.{Rose}
 use Rattle.lean_items.specs.declared.item.Item.{Item}
 use Rattle.lean_items.specs.declared.item.Item.TheVariants.{Bar, Coarse, Bad, Faulted, End}
 use Rattle.lean_items.specs.Given.{is_last, IsRow, IsNext, GivesItem, OnFaulted}
-use Rattle.lean_items.specs.Taken.{Follows}
 use Rattle.work_scheduler.specs.Served.{held_items, IsServed}
 
 -- a failed read is among the items only if it was, or if it was given now

@@ -1,10 +1,10 @@
 -- A turn that went on.
-use Rattle.std.proofs.Common.{◌≡◌, ℕ, ◌+◌, ◌≤◌, List, [], ◌∷◌, ◌++◌, length, Option, refl, sym, ap, ◌∙◌, subst, append_assoc, length-append, arith}
+use Rattle.std.proofs.Common.{◌≡◌, ℕ, ◌+◌, ◌≤◌, List, ◌++◌, length, refl, sym, ap, ◌∙◌, subst, append_assoc, length-append, arith}
 use Rattle.lean_items.specs.declared.feeds.Feed.{Ghosts}
 use Rattle.lean_items.specs.declared.item.Item.{Item}
 use Rattle.work_scheduler.specs.declared.turn.Turn.{Turn}
 use Rattle.work_scheduler.specs.Served.{IsServed}
-use Rattle.work_scheduler.specs.Turns.{given_of, turn_lane, room_of_lane, Stands, RanOn, SentMore}
+use Rattle.work_scheduler.specs.Turns.{given_of, turn_lane, room_of_lane, RanOn, SentMore}
 
 pub sent-then : (n m : ℕ) (a b c : List Item) → SentMore n a b → SentMore m b c → SentMore (n + m) a c
 sent-then n m a b c ab bc = (
@@ -14,6 +14,14 @@ sent-then n m a b c ab bc = (
 )
 
 module _ {G : Type 0} {feed : Ghosts G} where
+  pub ran-refl : (a : Turn G feed) → RanOn a a
+  ran-refl a = record {
+    lane = refl;
+    capacity = refl;
+    grows = omega arith;
+    stands = λ told before stands. stands;
+  }
+
   pub ran-then : (a b c : Turn G feed) → RanOn a b → RanOn b c → RanOn a c
   ran-then a b c ab bc = record {
     lane = bc.lane ∙ ab.lane;

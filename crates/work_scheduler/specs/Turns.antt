@@ -1,5 +1,5 @@
 -- What is seen of a turn, and what stays true of it while it is pumped.
-use Rattle.std.specs.Prelude.{◌≡◌, ℕ, ◌≤◌, Bool, ◌&&◌, List, [], ◌++◌, length, Option}
+use Rattle.std.specs.Prelude.{◌≡◌, ℕ, ◌≤◌, Bool, ◌&&◌, List, ◌++◌, length, Option}
 use Rattle.atomic_table.specs.Seated.{TableId}
 use Rattle.feed_queue.specs.Lanes.{sent_of as sent_by, lane_of, capacity_of}
 use Rattle.lean_items.specs.declared.feeds.Feed.{Ghosts}

@@ -1,8 +1,9 @@
 //! What a round does to turns that stand in the order of their feeds' numbers.
-ghost use Rattle.std.specs.Prelude.{◌≡◌, ◌+◌, ◌<◌, ◌≤◌, [], length, take, vec_len, vec_capacity, slice_index_or, MatchOption, ℕ};
+ghost use Rattle.std.specs.Prelude.{◌≡◌, ◌<◌, ◌≤◌, [], length, take, vec_len, vec_capacity, MatchOption};
 ghost use Rattle.std.specs.List.{All, AllZip, HoldsAt};
 ghost use Rattle.work_scheduler.specs.Placings.{numbered, all_sent, GrewAt, PlacedOn, IsStuck, OnePumped};
 
+use crate::picking::pick;
 use crate::{Placing, Pumped};
 use lean_items::{Feed, FeedNo};
 use std::sync::Wait;
@@ -33,11 +34,7 @@ pub(crate) fn place_of<G: Feed>(turns: &[Placing<G>], feed: FeedNo) -> Option<us
 }
 
 // Reads the rooms of the turns' lanes, in their order.
-pub(crate) fn read_rooms<G: Feed, R: Wait>(
-    rt: &R,
-    turns: &mut [Placing<G>],
-    rooms: &mut Vec<u32>,
-)
+pub(crate) fn read_rooms<G: Feed, R: Wait>(rt: &R, turns: &mut [Placing<G>], rooms: &mut Vec<u32>)
     requires empty { vec_len rooms.old ≡ 0 }
     requires space { length turns.old ≤ vec_capacity rooms.old }
     ensures ran { AllZip PlacedOn turns.old turns.new }
@@ -89,4 +86,27 @@ pub(crate) fn pump_first<G: Feed, R: Wait>(
         }
     }
     None
+}
+
+// Pumps the turn that has the most room, or, where no turn has any, one after another until one has sent an item.
+pub(crate) fn pump_one<G: Feed, R: Wait>(
+    rt: &R,
+    turns: &mut [Placing<G>],
+    rooms: &mut Vec<u32>,
+    batch: u32,
+) -> Option<Pumped>
+    requires some { 1 ≤ batch }
+    requires space { length turns.old ≤ vec_capacity rooms.old }
+    ensures ran { AllZip PlacedOn turns.old turns.new }
+    ensures pumped { MatchOption result
+        ((all_sent turns.new ≡ all_sent turns.old) × All IsStuck turns.new)
+        (λ pumped. OnePumped pumped turns.old turns.new) }
+    ensures capacity { vec_capacity rooms.new ≡ vec_capacity rooms.old }
+{
+    rooms.clear();
+    read_rooms(rt, turns, rooms);
+    match pick(rooms.as_slice()) {
+        Some(place) => Some(pump_at(rt, turns, place, batch)),
+        None => pump_first(rt, turns, batch),
+    }
 }

@@ -3,8 +3,7 @@ ghost use Rattle.std.specs.List.{All, AllZip};
 ghost use Rattle.work_scheduler.specs.Placings.{numbered, all_sent, PlacedOn, IsStuck, OnePumped};
 ghost use Rattle.work_scheduler.specs.Shelves.{on_shelf, places_of};
 
-use crate::picking::pick;
-use crate::rounds::{place_of, pump_at, pump_first, read_rooms, seat_of};
+use crate::rounds::{place_of, pump_one, seat_of};
 use crate::{Placing, Pumped, Shelf, Turn};
 use lean_fixed::NoMemory;
 use lean_items::{Feed, FeedNo};
@@ -37,7 +36,7 @@ impl<G: Feed + Drop> Shelf<G> {
         requires { numbered feed.0 (on_shelf self.old) ≡ [] }
         ensures turns { MatchResult result
             (λ _. (k : ℕ) → numbered k (on_shelf self.new)
-                ≡ (if feed.0 == k then (record { feed = feed; turn = turn }) ∷ [] else numbered k (on_shelf self.old)))
+            ≡ (if feed.0 == k then (record { feed = feed; turn = turn }) ∷ [] else numbered k (on_shelf self.old)))
             (λ placed. (placed.turn ≡ turn) × (on_shelf self.new ≡ on_shelf self.old)) }
         ensures count { MatchResult result
             (λ _. length (on_shelf self.new) ≡ length (on_shelf self.old) + 1)
@@ -48,8 +47,10 @@ impl<G: Feed + Drop> Shelf<G> {
             return Err(Placed { turn });
         }
         let place = seat_of(self.turns.as_slice(), *&feed);
-        self.turns.insert_reserved(place, Placing { feed, turn });
-        Ok(())
+        match self.turns.insert(place, Placing { feed, turn }) {
+            Ok(()) => Ok(()),
+            Err(_) => unreachable!(),
+        }
     }
 
     /// Takes the turn of a feed off the shelf. `None`: it is not there, and nothing changed.
@@ -57,8 +58,8 @@ impl<G: Feed + Drop> Shelf<G> {
         ensures turn { MatchOption result
             ((numbered feed.0 (on_shelf self.old) ≡ []) × (on_shelf self.new ≡ on_shelf self.old))
             (λ turn. (numbered feed.0 (on_shelf self.old) ≡ (record { feed = feed; turn = turn }) ∷ [])
-                × ((k : ℕ) → numbered k (on_shelf self.new) ≡ (if feed.0 == k then [] else numbered k (on_shelf self.old)))
-                × (length (on_shelf self.new) + 1 ≡ length (on_shelf self.old))) }
+            × ((k : ℕ) → numbered k (on_shelf self.new) ≡ (if feed.0 == k then [] else numbered k (on_shelf self.old)))
+            × (length (on_shelf self.new) + 1 ≡ length (on_shelf self.old))) }
         ensures places { places_of self.new ≡ places_of self.old }
     {
         match place_of(self.turns.as_slice(), feed) {
@@ -81,11 +82,6 @@ impl<G: Feed + Drop> Shelf<G> {
             (λ pumped. OnePumped pumped (on_shelf self.old) (on_shelf self.new)) }
         ensures places { places_of self.new ≡ places_of self.old }
     {
-        self.rooms.clear();
-        read_rooms(rt, self.turns.as_mut_slice(), &mut self.rooms);
-        match pick(self.rooms.as_slice()) {
-            Some(place) => Some(pump_at(rt, self.turns.as_mut_slice(), place, batch)),
-            None => pump_first(rt, self.turns.as_mut_slice(), batch),
-        }
+        pump_one(rt, self.turns.as_mut_slice(), &mut self.rooms, batch)
     }
 }

@@ -1,5 +1,5 @@
 -- The next item of the feed is in hand.
-use Rattle.std.proofs.Common.{◌≡◌, false, refl, ◌∙◌, rules}
+use Rattle.std.proofs.Common.{◌≡◌, false, refl, rules}
 use Rattle.feed_queue.specs.Lanes.{sent_of as sent_by}
 use Rattle.work_scheduler.proofs.ServedLemmas.{served-drawn}
 use Rattle.work_scheduler.proofs.turn.Turn.draw.Goals as goal

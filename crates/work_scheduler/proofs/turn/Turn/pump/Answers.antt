@@ -1,5 +1,5 @@
 -- One item more was sent, or none.
-use Rattle.std.proofs.Common.{◌≡◌, ◌+◌, ◌≤◌, true, false, if◌then◌else◌, subst, arith}
+use Rattle.std.proofs.Common.{if◌then◌else◌, subst, arith}
 use Rattle.work_scheduler.specs.Turns.{sent_of, SentMore}
 use Rattle.work_scheduler.proofs.TurnLemmas.{ran-then, sent-then}
 use Rattle.work_scheduler.proofs.turn.Turn.pump.Goals as goal
