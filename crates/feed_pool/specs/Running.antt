@@ -1,12 +1,12 @@
 -- What was taken of a feed, and what it has to do with the feed and its list.
-use Rattle.std.specs.Prelude.{◌≡◌, ℕ, ◌+◌, ◌^◌, ◌<◌, ◌≤◌, Bool, false, not, List, ◌++◌, Option, Some, None, slice_index_or}
+use Rattle.std.specs.Prelude.{◌≡◌, ℕ, ◌+◌, ◌^◌, ◌<◌, ◌≤◌, Bool, false, not, List, [], ◌∷◌, ◌++◌, Option, Some, None, slice_index_or}
 use Rattle.std.specs.List.{All, Contains}
 use Rattle.lean_fixed.specs.Counts.{Rose, raised}
 use Rattle.lean_items.specs.declared.feed_key.FeedKey.{FeedKey}
 use Rattle.lean_items.specs.declared.item.Item.{Item}
 use Rattle.lean_items.specs.declared.item.Item.TheVariants.{Faulted}
 use Rattle.lean_items.specs.Given.{IsRow, OnRow, OnFaulted, GivesItem, is_last}
-use Rattle.lean_items.specs.Taken.{Taken, Feeds, Follows}
+use Rattle.lean_items.specs.Taken.{Start, Taken, Feeds, Follows}
 use Rattle.feed_pool.specs.Each.{AtEach}
 use native.Mathlib.Omega.{arith}
 
@@ -36,6 +36,15 @@ module _ {G : Type 0} where
   room-of_few room few None = omega arith
   room-of_few room few (Some feed) = (let h = few feed in omega arith)
 
+  -- how many feeds are there, each with a hand
+  abbrev pub one : Option G → ℕ
+  one None = 0
+  one (Some feed) = 1
+
+  abbrev pub held : List (Option G) → ℕ
+  held [] = 0
+  held (x ∷ feeds) = one x + held feeds
+
   -- the folder's count after the hand of a feed was given back
   abbrev pub counted : (G → ℕ) → Option G → ℕ → ℕ
   counted faults None now = now
@@ -59,6 +68,11 @@ module _ {G : Type 0} where
     pub record Stands (lists : Option (FeedKey → List Item)) (before now : ℕ) (feeds : List (Option G)) (taken : Feeds) : Type 0 where
       pub since : before ≤ now
       pub each : AtEach (Standing lists before now) feeds taken
+
+    -- the same, and the hands that are out beyond those at the start are those of the feeds that are there
+    pub record Runs (lists : Option (FeedKey → List Item)) (start now : Start) (feeds : List (Option G)) (taken : Feeds) : Type 0 where
+      pub stands : Stands lists start.faults now.faults feeds taken
+      pub hands : now.hands ≡ start.hands + held feeds
 
     -- a feed that stands in a place gave an item
     pub record Gave (room : G → ℕ) (old new : Option G) (item : Item) : Type 0 where

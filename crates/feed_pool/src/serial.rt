@@ -32,7 +32,8 @@ impl<'a, F: Folder, G: HandFeed<F::H>> PoolOver<'a, F, Slots<G>> {
         requires { IsWindow window }
         ensures made { IsOk result }
         ensures stands { IfOk result (λ pool.
-            ⟦<PoolOver<'a, F, Slots<G>> as Pool>⟧.stands pool (F.faults folder.old) no_feeds) }
+            ⟦<PoolOver<'a, F, Slots<G>> as Pool>⟧.stands pool
+            (record { faults = F.faults folder.old; hands = F.hands folder.old }) no_feeds) }
         ensures lists { IfOk result (λ pool. ⟦<PoolOver<'a, F, Slots<G>> as Pool>⟧.lists pool
             ≡ lists_of (F.files folder.old) (arc_value hours) window) }
         ensures added { IfOk result (λ pool. ⟦<PoolOver<'a, F, Slots<G>> as Pool>⟧.added pool ≡ 0) }
@@ -54,7 +55,7 @@ impl<F: Folder, G: HandFeed<F::H>> Pool for PoolOver<'_, F, Slots<G>> {
     ghost use Rattle.std.specs.Prelude.{◌<◌, Some, None, slice_index_or, vec_len};
     ghost use Rattle.std.specs.Arc.{arc_value};
     ghost use Rattle.feed_pool.specs.Lists.{lists_of};
-    ghost use Rattle.feed_pool.specs.Running.{is_open_at, room_at, room-of_few, Stands};
+    ghost use Rattle.feed_pool.specs.Running.{is_open_at, room_at, room-of_few, Runs};
 
     ghost files = { λ p. F.files p.folder.now };
 
@@ -62,15 +63,17 @@ impl<F: Folder, G: HandFeed<F::H>> Pool for PoolOver<'_, F, Slots<G>> {
 
     ghost faults = { λ p. F.faults p.folder.now };
 
+    ghost hands = { λ p. F.hands p.folder.now };
+
     ghost added = { λ p. vec_len p.slots.feeds };
 
     ghost is_open = { λ p n. is_open_at G.has_ended p.slots.feeds.items n };
 
     ghost room = { λ p n. room_at G.room p.slots.feeds.items n };
 
-    ghost stands = { λ p before feeds. Stands G.leaves G.has_ended G.faults
+    ghost stands = { λ p start feeds. Runs G.leaves G.has_ended G.faults
         (lists_of (F.files p.folder.now) (arc_value p.slots.hours) p.slots.window)
-        before (F.faults p.folder.now) p.slots.feeds.items feeds };
+        start (record { faults = F.faults p.folder.now; hands = F.hands p.folder.now }) p.slots.feeds.items feeds };
 
     ghost place = { λ p. p.folder.ghost_name };
 

@@ -9,17 +9,16 @@ use lean_items::{Bar, Feed, Item};
 use row_feed::RowFeed;
 
 impl<H: Hand> FilledFeed<H> {
-    ghost use Rattle.std.specs.Prelude.{◌≡◌, ◌<◌, ◌≤◌, ℤ, ◌≤ℤ◌, ◌<ℤ◌, neg_ℤ, pos, false, List, Option, Some, None, IfSome};
+    ghost use Rattle.std.specs.Prelude.{◌≡◌, ℤ, ◌≤ℤ◌, ◌<ℤ◌, neg_ℤ, pos, false, List, Option, Some, None, IfSome};
     ghost use Rattle.lean_io.specs.Told.{Files};
     ghost use Rattle.lean_items.specs.declared.item.Item.{Item};
-    ghost use Rattle.lean_items.specs.Given.{is_last, OnRow, OnFaulted, GivesItem};
-    ghost use Rattle.lean_fixed.specs.Counts.{Rose};
+    ghost use Rattle.lean_items.specs.Given.{OnFaulted, GivesItem};
     ghost use Rattle.lean_fixed.specs.Ranges.{IsMoment, IsWindow};
     ghost use Rattle.clock_feeds.specs.Feeds.{rows as row_list, feed as feed_list};
-    ghost use Rattle.row_feed.specs.Feed.{hand_of, key_of, window_of, hours_of, has_ended, at_of, Leaves, Keeps};
+    ghost use Rattle.row_feed.specs.Feed.{hand_of, key_of, window_of, hours_of, has_ended, at_of, Leaves};
     ghost use Rattle.fill_forward.specs.declared.ahead.Ahead.TheVariants.{Nothing, Row, Over};
     ghost use Rattle.fill_forward.specs.Again.{grid_of, IsAgain};
-    ghost use Rattle.fill_forward.specs.Feed.{rows_of, ahead_of, last_of, given_to, filling, is_done, left_of, LeavesFilled, LeavesItems};
+    ghost use Rattle.fill_forward.specs.Feed.{rows_of, ahead_of, last_of, given_to, filling, is_done, LeavesFilled, LeavesItems, Goes, ReadsBehind};
 
     /// The feed of some rows, of which none was given yet.
     pub fn new(rows: RowFeed<H>) -> FilledFeed<H>
@@ -61,12 +60,8 @@ impl<H: Hand> FilledFeed<H> {
         requires grid { grid_of (key_of (rows_of self.old)) ≡ Some resolution }
         ensures gives { (list : List Item) → LeavesFilled H.files H.rest H.is_open self.old resolution list
             → GivesItem (LeavesFilled H.files H.rest H.is_open self.new resolution) list result }
-        ensures fewer { OnRow result (left_of self.new < left_of self.old) }
-        ensures ended { is_done self.new ≡ is_last result }
-        ensures grows { H.faults (hand_of (rows_of self.old)) ≤ H.faults (hand_of (rows_of self.new)) }
-        ensures rose { OnFaulted result
-            (Rose (H.faults (hand_of (rows_of self.old))) (H.faults (hand_of (rows_of self.new)))) }
-        ensures kept { Keeps (rows_of self.old) (rows_of self.new) }
+        ensures goes { Goes H.faults self.old self.new result }
+        ensures reads { ReadsBehind H.files H.rest H.is_open (ahead_of self.old) (rows_of self.old) (rows_of self.new) }
     {
         match self.ahead {
             Ahead::Row(row) => self.next_by_row(resolution, row),
@@ -82,12 +77,8 @@ impl<H: Hand> FilledFeed<H> {
         requires grid { grid_of (key_of (rows_of self.old)) ≡ Some resolution }
         ensures gives { (list : List Item) → LeavesFilled H.files H.rest H.is_open self.old resolution list
             → GivesItem (LeavesFilled H.files H.rest H.is_open self.new resolution) list result }
-        ensures fewer { OnRow result (left_of self.new < left_of self.old) }
-        ensures ended { is_done self.new ≡ is_last result }
-        ensures grows { H.faults (hand_of (rows_of self.old)) ≤ H.faults (hand_of (rows_of self.new)) }
-        ensures rose { OnFaulted result
-            (Rose (H.faults (hand_of (rows_of self.old))) (H.faults (hand_of (rows_of self.new)))) }
-        ensures kept { Keeps (rows_of self.old) (rows_of self.new) }
+        ensures goes { Goes H.faults self.old self.new result }
+        ensures reads { ReadsBehind H.files H.rest H.is_open (ahead_of self.old) (rows_of self.old) (rows_of self.new) }
     {
         match self.rows.next() {
             Item::Bar(row) => {
@@ -110,9 +101,8 @@ impl<H: Hand> FilledFeed<H> {
         requires grid { grid_of (key_of (rows_of self.old)) ≡ Some resolution }
         ensures gives { (list : List Item) → LeavesFilled H.files H.rest H.is_open self.old resolution list
             → GivesItem (LeavesFilled H.files H.rest H.is_open self.new resolution) list result }
-        ensures fewer { OnRow result (left_of self.new < left_of self.old) }
-        ensures ended { is_done self.new ≡ is_last result }
-        ensures row { is_last result ≡ false }
+        ensures goes { Goes H.faults self.old self.new result }
+        ensures faultless { OnFaulted result ⊥ }
         ensures rows { rows_of self.new ≡ rows_of self.old }
     {
         match self.filled_before(resolution, row.end) {
@@ -135,9 +125,8 @@ impl<H: Hand> FilledFeed<H> {
         requires grid { grid_of (key_of (rows_of self.old)) ≡ Some resolution }
         ensures gives { (list : List Item) → LeavesFilled H.files H.rest H.is_open self.old resolution list
             → GivesItem (LeavesFilled H.files H.rest H.is_open self.new resolution) list result }
-        ensures fewer { OnRow result (left_of self.new < left_of self.old) }
-        ensures ended { is_done self.new ≡ is_last result }
-        ensures faults { OnFaulted result ⊥ }
+        ensures goes { Goes H.faults self.old self.new result }
+        ensures faultless { OnFaulted result ⊥ }
         ensures rows { rows_of self.new ≡ rows_of self.old }
     {
         match self.filled_before(resolution, Moment(self.until.0 + 1)) {
@@ -170,8 +159,12 @@ impl<H: Hand> FilledFeed<H> {
 }
 
 impl<H: Hand> Feed for FilledFeed<H> {
+    ghost use Rattle.std.specs.Prelude.{◌≡◌, ◌<◌, ◌≤◌, false, List};
+    ghost use Rattle.lean_fixed.specs.Counts.{Rose};
+    ghost use Rattle.lean_items.specs.declared.item.Item.{Item};
+    ghost use Rattle.lean_items.specs.Given.{is_last, OnRow, OnFaulted, GivesItem};
     ghost use Rattle.row_feed.specs.Feed.{hand_of};
-    ghost use Rattle.fill_forward.specs.Feed.{is_done, room, rows_of, LeavesItems};
+    ghost use Rattle.fill_forward.specs.Feed.{is_done, room, rows_of, ahead_of, LeavesItems, ReadsBehind};
     ghost use Rattle.fill_forward.specs.Few.{few_left};
 
     ghost leaves = { λ feed list. LeavesItems H.files H.rest H.is_open feed list };
@@ -184,7 +177,18 @@ impl<H: Hand> Feed for FilledFeed<H> {
 
     ghost few = { λ feed. few_left feed };
 
-    fn next(&mut self) -> Item {
+    /// It reads by one call of its rows where nothing was read ahead, and else no further.
+    fn next(&mut self) -> Item
+        requires { is_done self.old ≡ false }
+        ensures gives { (list : List Item) → LeavesItems H.files H.rest H.is_open self.old list
+            → GivesItem (LeavesItems H.files H.rest H.is_open self.new) list result }
+        ensures fewer { OnRow result (room self.new < room self.old) }
+        ensures ended { is_done self.new ≡ is_last result }
+        ensures grows { H.faults (hand_of (rows_of self.old)) ≤ H.faults (hand_of (rows_of self.new)) }
+        ensures rose { OnFaulted result
+            (Rose (H.faults (hand_of (rows_of self.old))) (H.faults (hand_of (rows_of self.new)))) }
+        ensures reads { ReadsBehind H.files H.rest H.is_open (ahead_of self.old) (rows_of self.old) (rows_of self.new) }
+    {
         match grid_of(&self.rows.key()) {
             Some(resolution) => self.next_filled(resolution),
             None => self.rows.next(),

@@ -12,14 +12,14 @@ use Rattle.lean_items.specs.declared.arrival.Arrival.{Arrival}
 use Rattle.lean_items.specs.declared.feed_no.FeedNo.{FeedNo}
 use Rattle.lean_items.specs.declared.item.Item.{Item}
 use Rattle.lean_items.specs.Given.{IsRow}
-use Rattle.lean_items.specs.Taken.{Feeds}
+use Rattle.lean_items.specs.Taken.{Start, Feeds}
 use Rattle.frontier_sync.specs.Heads.{arrival, AreRising, AreOpen}
 use Rattle.frontier_sync.specs.Slices.{Refilled, IsRefilled, IsSliced, given_of, given_here, slice_of, TakesOfHeads, TakesOfOne, MovesOn}
 use Rattle.frontier_sync.proofs.PlaceLemmas.{Below, Above}
 use Rattle.frontier_sync.proofs.TakenLemmas.{with_taken, moves-none, moves-more}
 
 -- The heads before a place are sliced, and the others are as they were.
-pub record SlicedTo (old_stands stands : ℕ → Feeds → Type 0) (at : ℤ) (place : ℕ) (first now before out : List Arrival) : Type 0 where
+pub record SlicedTo (old_stands stands : Start → Feeds → Type 0) (at : ℤ) (place : ℕ) (first now before out : List Arrival) : Type 0 where
   pub done : List Arrival
   pub fresh : List Arrival
   pub rest : List Arrival
@@ -32,7 +32,7 @@ pub record SlicedTo (old_stands stands : ℕ → Feeds → Type 0) (at : ℤ) (p
   pub moves : MovesOn old_stands stands taken
   pub idle : TakesOfHeads done taken
 
-pub sliced-none : (stands : ℕ → Feeds → Type 0) (at : ℤ) (heads before : List Arrival) → SlicedTo stands stands at 0 heads heads before before
+pub sliced-none : (stands : Start → Feeds → Type 0) (at : ℤ) (heads before : List Arrival) → SlicedTo stands stands at 0 heads heads before before
 sliced-none stands at heads before = record {
   done = [];
   fresh = [];
@@ -126,7 +126,7 @@ all-back n [] ys all = all
 all-back n (x ∷ xs) ys all = all-back n xs ys (All-tail (λ a. a.feed.0 ≢ n) x (xs ++ ys) all)
 
 -- one head more
-pub sliced-more : (old stands new : ℕ → Feeds → Type 0) (at : ℤ) (place : ℕ) (first now before out after : List Arrival) (head next : Arrival) (items : List Item)
+pub sliced-more : (old stands new : Start → Feeds → Type 0) (at : ℤ) (place : ℕ) (first now before out after : List Arrival) (head next : Arrival) (items : List Item)
     → SlicedTo old stands at place first now before out → AreRising first → place < length now → get_or now place head ≡ head
     → next.feed ≡ head.feed → Refilled at head.item items next.item → after ≡ out ++ map (arrival head.feed) (given_of at head.item items)
     → TakesOfOne stands new head.feed.0 items
@@ -163,7 +163,7 @@ sliced-more old stands new at place first now before out after head next items s
     }
 
 -- where memory is wanted at a head
-pub sliced-short : (old stands new : ℕ → Feeds → Type 0) (at : ℤ) (place : ℕ) (first now before out : List Arrival) (head : Arrival) (items : List Item)
+pub sliced-short : (old stands new : Start → Feeds → Type 0) (at : ℤ) (place : ℕ) (first now before out : List Arrival) (head : Arrival) (items : List Item)
     → SlicedTo old stands at place first now before out → AreRising first → place < length now → get_or now place head ≡ head
     → TakesOfOne stands new head.feed.0 items
     → (taken : ℕ → List Item) × MovesOn old new taken × TakesOfHeads first taken
@@ -182,7 +182,7 @@ sliced-short old stands new at place first now before out head items s rising wi
     )
 
 -- all heads are sliced
-pub sliced-all : (old stands : ℕ → Feeds → Type 0) (at : ℤ) (place : ℕ) (first now before out : List Arrival)
+pub sliced-all : (old stands : Start → Feeds → Type 0) (at : ℤ) (place : ℕ) (first now before out : List Arrival)
     → SlicedTo old stands at place first now before out → length now ≤ place
     → (taken : ℕ → List Item) × (IsSliced at taken first now × (out ≡ before ++ slice_of at taken first)) × MovesOn old stands taken × TakesOfHeads first taken
 sliced-all old stands at place first now before out s end =

@@ -4,7 +4,7 @@ use Rattle.std.proofs.Math.Path.{fun_ext}
 use Rattle.std.proofs.lemmas.Bool.Decides.{nat_tests}
 use Rattle.lean_items.specs.declared.feed_key.FeedKey.{FeedKey}
 use Rattle.lean_items.specs.declared.item.Item.{Item}
-use Rattle.lean_items.specs.Taken.{Feeds, Taken, more}
+use Rattle.lean_items.specs.Taken.{Start, Feeds, Taken, more}
 use Rattle.frontier_sync.specs.Slices.{taken_one, TakesOfOne, taken_all, MovesOn}
 
 abbrev with_items : FeedKey → List Item → Taken
@@ -34,11 +34,11 @@ one-none feeds feed = fun_ext (λ n. at n (n == feed))
     at n false = refl
 
 -- nothing was taken of a feed
-pub takes-none : (stands : ℕ → Feeds → Type 0) (feed : ℕ) → TakesOfOne stands stands feed []
+pub takes-none : (stands : Start → Feeds → Type 0) (feed : ℕ) → TakesOfOne stands stands feed []
 takes-none stands feed before feeds h = subst (λ f. stands before f) (sym (one-none feeds feed)) h
 
 -- some items, and then some more
-pub takes-more : (old now new : ℕ → Feeds → Type 0) (feed : ℕ) (xs ys : List Item)
+pub takes-more : (old now new : Start → Feeds → Type 0) (feed : ℕ) (xs ys : List Item)
     → TakesOfOne old now feed xs → TakesOfOne now new feed ys → TakesOfOne old new feed (xs ++ ys)
 takes-more old now new feed xs ys first then before feeds h =
     subst (λ f. new before f) (one-one feeds feed xs ys) (then before (taken_one feeds feed xs) (first before feeds h))
@@ -59,10 +59,10 @@ all-one feeds taken feed items none = fun_ext (λ n. at n (n == feed) refl)
         more-more (taken n) items (feeds n) ∙ ap (λ xs. option_map (more (xs ++ items)) (feeds n)) nothing
     at n false e = refl
 
-pub moves-none : (stands : ℕ → Feeds → Type 0) → MovesOn stands stands (λ n. [])
+pub moves-none : (stands : Start → Feeds → Type 0) → MovesOn stands stands (λ n. [])
 moves-none stands before feeds h = subst (λ f. stands before f) (sym (fun_ext (λ n. more-none (feeds n)))) h
 
-pub moves-more : (old now new : ℕ → Feeds → Type 0) (taken : ℕ → List Item) (feed : ℕ) (items : List Item) → taken feed ≡ []
+pub moves-more : (old now new : Start → Feeds → Type 0) (taken : ℕ → List Item) (feed : ℕ) (items : List Item) → taken feed ≡ []
     → MovesOn old now taken → TakesOfOne now new feed items → MovesOn old new (with_taken taken feed items)
 moves-more old now new taken feed items none moves takes before feeds h =
     subst (λ f. new before f) (all-one feeds taken feed items none) (takes before (taken_all feeds taken) (moves before feeds h))

@@ -7,7 +7,7 @@ use Rattle.lean_items.specs.declared.item.Item.{Item}
 use Rattle.lean_items.specs.declared.item.Item.TheVariants.{Bar, Coarse, Bad, Faulted, End}
 use Rattle.lean_items.specs.Fits.{fits}
 use Rattle.lean_items.specs.Given.{end_of}
-use Rattle.lean_items.specs.Taken.{Feeds, more}
+use Rattle.lean_items.specs.Taken.{Start, Feeds, more}
 use Rattle.frontier_sync.specs.Heads.{arrival, EndsFrom, EndsAfter}
 
 -- a row that ends at a moment
@@ -60,11 +60,11 @@ abbrev pub taken_one : Feeds → ℕ → List Item → Feeds
 taken_one feeds feed taken = λ n. if n == feed then option_map (more taken) (feeds n) else feeds n
 
 -- whatever a pool stood for, it stands for it with what was taken of one feed
-abbrev pub TakesOfOne : (ℕ → Feeds → Type 0) → (ℕ → Feeds → Type 0) → ℕ → List Item → Type 0
+abbrev pub TakesOfOne : (Start → Feeds → Type 0) → (Start → Feeds → Type 0) → ℕ → List Item → Type 0
 TakesOfOne old_stands new_stands feed taken =
-    (before : ℕ) (feeds : Feeds) → old_stands before feeds → new_stands before (taken_one feeds feed taken)
+    (before : Start) (feeds : Feeds) → old_stands before feeds → new_stands before (taken_one feeds feed taken)
 
 -- whatever a pool stood for, it stands for it with what was taken of each feed
-abbrev pub MovesOn : (ℕ → Feeds → Type 0) → (ℕ → Feeds → Type 0) → (ℕ → List Item) → Type 0
+abbrev pub MovesOn : (Start → Feeds → Type 0) → (Start → Feeds → Type 0) → (ℕ → List Item) → Type 0
 MovesOn old_stands new_stands taken =
-    (before : ℕ) (feeds : Feeds) → old_stands before feeds → new_stands before (taken_all feeds taken)
+    (before : Start) (feeds : Feeds) → old_stands before feeds → new_stands before (taken_all feeds taken)

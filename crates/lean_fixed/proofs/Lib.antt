@@ -3,6 +3,7 @@ pub mod SymbolLemmas
 pub mod CalendarWalk
 pub mod SpelledDates
 pub mod PrintedLemmas
+pub mod WrittenLemmas
 pub mod AmountLemmas
 pub mod RoundTrips
 pub mod PrintsBack

@@ -6,6 +6,7 @@ pub mod Calendar
 pub mod Moments
 pub mod Padded
 pub mod Printed
+pub mod Written
 pub mod Ranges
 pub mod Counts
 pub mod ReadBack

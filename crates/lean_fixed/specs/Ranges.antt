@@ -1,5 +1,6 @@
 -- The ranges in which the numbers of a backtest lie. Prices and money are in 1/10000 dollar.
-use Rattle.std.specs.Prelude.{ℕ, ◌+◌, ◌-◌, ◌≤◌, ◌≢◌, ℤ, ◌≤ℤ◌, ◌<ℤ◌, pos, neg_ℤ}
+-- Where a range is tested, too, its test has the range's name in small letters, and is true exactly in the range.
+use Rattle.std.specs.Prelude.{ℕ, ◌+◌, ◌-◌, ◌≤◌, ◌≢◌, ℤ, ◌≤ℤ◌, ◌<ℤ◌, int_le, pos, neg_ℤ, Bool, ◌&&◌}
 use Rattle.lean_fixed.specs.declared.time.Window.{Window}
 use Rattle.lean_fixed.specs.Calendar.{last_day}
 use Rattle.lean_fixed.specs.Moments.{midnight}
@@ -7,6 +8,9 @@ use Rattle.lean_fixed.specs.Moments.{midnight}
 -- from one number to another, both included
 abbrev pub IsWithin : ℤ → ℤ → ℤ → Type 0
 IsWithin low high n = (low ≤ℤ n) × (n ≤ℤ high)
+
+abbrev pub is_within : ℤ → ℤ → ℤ → Bool
+is_within low high n = int_le low n && int_le n high
 
 -- within a number either way
 abbrev pub IsAtMost : ℕ → ℤ → Type 0
@@ -18,6 +22,9 @@ most_price = 10000000000
 
 abbrev pub IsPrice : ℤ → Type 0
 IsPrice n = IsWithin (pos 1) (pos most_price) n
+
+abbrev pub is_price : ℤ → Bool
+is_price n = is_within (pos 1) (pos most_price) n
 
 -- the price of a fill, which slippage may have raised by up to 100 dollars
 abbrev pub most_fill_price : ℕ
@@ -32,6 +39,9 @@ most_volume = 1000000000000000
 
 abbrev pub IsVolume : ℤ → Type 0
 IsVolume n = IsWithin (pos 0) (pos most_volume) n
+
+abbrev pub is_volume : ℤ → Bool
+is_volume n = is_within (pos 0) (pos most_volume) n
 
 abbrev pub most_sum_of_volumes : ℕ
 most_sum_of_volumes = 1440000000000000000
@@ -95,6 +105,9 @@ pub record IsWindow (window : Window) : Type 0 where
 -- a moment, in minutes since 1970-01-01 00:00
 abbrev pub IsMoment : ℤ → Type 0
 IsMoment n = IsWithin (neg_ℤ (pos 10000)) (pos 121000000) n
+
+abbrev pub is_moment : ℤ → Bool
+is_moment n = is_within (neg_ℤ (pos 10000)) (pos 121000000) n
 
 -- a moment that lies on one of the days
 abbrev pub IsDatedMoment : ℤ → Type 0

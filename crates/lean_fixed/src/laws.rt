@@ -1,5 +1,5 @@
 //! Facts of the definitions, for the proofs of those who call them: each is the contract of a function that does nothing.
-ghost use Rattle.std.specs.Prelude.{◌≡◌, ℕ, ◌^◌, ◌≤◌, IsTrue, true, pos, List, length, Some, decimal};
+ghost use Rattle.std.specs.Prelude.{◌≡◌, ℕ, ◌^◌, ◌≤◌, ◌↔◌, IsTrue, true, ℤ, pos, List, length, Some, decimal};
 ghost use Rattle.std.specs.List.{list_all};
 ghost use Rattle.lean_fixed.specs.Digits.{is_digit, digits};
 ghost use Rattle.lean_fixed.specs.Fields.{plain_number};
@@ -7,7 +7,7 @@ ghost use Rattle.lean_fixed.specs.Symbol.{is_symbol};
 ghost use Rattle.lean_fixed.specs.Amount.{amount, most_amount};
 ghost use Rattle.lean_fixed.specs.Calendar.{last_day, day_of_digits};
 ghost use Rattle.lean_fixed.specs.Printed.{units_text, money_text, day_text, moment_text};
-ghost use Rattle.lean_fixed.specs.Ranges.{last_printed_moment};
+ghost use Rattle.lean_fixed.specs.Ranges.{IsWithin, is_within, last_printed_moment};
 ghost use Rattle.lean_fixed.specs.ReadBack.{number_of_text, amount_of_text, moment_of_text};
 
 use crate::{Money, Price, Symbol};
@@ -87,4 +87,9 @@ pub fn number_reads_back()
 pub fn number_prints_back()
     ensures { (text : List ℕ) (number : ℕ) → number_of_text text ≡ Some number
         → decimal number ≡ text }
+{}
+
+/// The test of a range is true exactly in the range.
+pub fn tests_of_ranges_agree()
+    ensures { (low high n : ℤ) → (is_within low high n ≡ true) ↔ IsWithin low high n }
 {}

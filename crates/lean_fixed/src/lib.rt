@@ -16,6 +16,7 @@ mod symbol;
 mod texts;
 mod time;
 mod worked;
+pub mod writing;
 
 pub use amount::read_amount;
 pub use digits::read_digits;
@@ -23,5 +24,5 @@ pub use memory::NoMemory;
 pub use money::{Money, Price, Shares, Side};
 pub use resolution::Resolution;
 pub use symbol::Symbol;
-pub use texts::{day_text, moment_text, money_text, price_text, write_price};
+pub use texts::{day_text, moment_text, money_text, price_text};
 pub use time::{Day, Moment, Window};

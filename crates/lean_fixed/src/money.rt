@@ -1,3 +1,8 @@
+ghost use Rattle.std.specs.Prelude.{◌≡◌, ◌↔◌, true};
+ghost use Rattle.lean_fixed.specs.Ranges.{IsPrice, is_price, IsVolume, is_volume};
+
+use crate::ranges::{MOST_PRICE, MOST_VOLUME};
+
 /// A price of one share in 1/10000 dollar, the unit of LEAN's equity files. The price of a bar, an order or a mark is 1 to
 /// 10,000,000,000, and that of a fill 1 to 10,001,000,000.
 #[derive(Clone, Copy, Debug, PartialEq, Eq, PartialOrd, Ord)]
@@ -21,4 +26,26 @@ pub enum Side {
     Buy,
     /// Shares are sold: the quantity is negative.
     Sell,
+}
+
+impl Price {
+    /// Whether the price is one of a bar, an order or a mark: from 1 to 10,000,000,000.
+    #[inline]
+    pub fn is_in_range(self) -> bool
+        ensures value { result ≡ is_price self.0 }
+        ensures range { (result ≡ true) ↔ IsPrice self.0 }
+    {
+        1 <= self.0 && self.0 <= MOST_PRICE
+    }
+}
+
+impl Shares {
+    /// Whether the shares are the volume of a bar that a file has: from 0 to 10^15.
+    #[inline]
+    pub fn is_volume(self) -> bool
+        ensures value { result ≡ is_volume self.0 }
+        ensures range { (result ≡ true) ↔ IsVolume self.0 }
+    {
+        0 <= self.0 && self.0 <= MOST_VOLUME
+    }
 }

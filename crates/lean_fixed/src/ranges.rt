@@ -6,6 +6,12 @@ pub const LAST_DAY: i32 = 84_005;
 /// The minutes in a day.
 pub const MINUTES_PER_DAY: u32 = 1_440;
 
+/// The first moment, in minutes since 1970-01-01 00:00: somewhat before the first day.
+pub const FIRST_MOMENT: i64 = -10_000;
+
+/// The last moment, somewhat behind the last day.
+pub const LAST_MOMENT: i64 = 121_000_000;
+
 /// The greatest price of a bar, an order or a mark: a million dollars. The least is 1.
 pub const MOST_PRICE: i64 = 10_000_000_000;
 

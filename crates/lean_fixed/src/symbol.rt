@@ -1,4 +1,4 @@
-ghost use Rattle.std.specs.Prelude.{◌≡◌, if◌then◌else◌, nat_eq, refl, Some};
+ghost use Rattle.std.specs.Prelude.{◌≡◌, ◌+◌, ◌≤◌, ◌++◌, length, take, drop, if◌then◌else◌, nat_eq, refl, Some};
 ghost use Rattle.std.specs.List.{list_all};
 ghost use Rattle.std.specs.Ordering.{nat_cmp};
 ghost use Rattle.std.specs.Cmp.{partial_equiv_from_equiv};
@@ -62,6 +62,22 @@ impl Symbol {
         ensures value { result.now ≡ self.now }
     {
         &self.padded[..self.len as usize]
+    }
+
+    /// Writes the bytes of the name at a place of a buffer, and gives the place behind them. The twelve bytes from the place
+    /// on are written, whatever the name's length, since a copy of a known length needs no call.
+    #[inline]
+    pub fn put(&self, buffer: &mut [u8], place: usize) -> usize
+        requires room { place + 12 ≤ length buffer.old }
+        ensures end { result ≡ place + length self.now }
+        ensures size { length buffer.new ≡ length buffer.old }
+        ensures written { take result buffer.new ≡ take place buffer.old ++ self.now }
+        ensures rest { drop (place + 12) buffer.new ≡ drop (place + 12) buffer.old }
+        ensures most { result ≤ place + 12 }
+    {
+        let name: &[u8] = &self.padded;
+        buffer[place..place + MOST].copy_from_slice(name);
+        place + self.len as usize
     }
 }
 

@@ -5,37 +5,10 @@ ghost use Rattle.lean_fixed.specs.Ranges.{IsDay, IsPrintedMoment};
 
 use crate::ranges::MINUTES_PER_DAY;
 use crate::time::date_at;
+use crate::writing::{LONGEST_MONEY, LONGEST_PRICE, put_money, put_price};
 use crate::{Day, Moment, Money, NoMemory, Price};
-use itoa::write_digits;
 
-// The units in a dollar.
-const UNITS: u64 = 10_000;
-
-// The bytes of the longest text of a price: a sign, 15 digits, a point and four digits.
-const LONGEST_PRICE: usize = 21;
-
-// The bytes of the longest text of money: a sign, 35 digits, a point and four digits.
-const LONGEST: usize = 41;
-
-// Where the point stands in that many bytes.
-const POINT: usize = 36;
-
-/// Writes the text of a price before a place of a buffer, and says where it starts: `-` where it is negative, the whole
-/// dollars, a point and four digits, at most 21 bytes. What stands behind the place stays.
-pub fn write_price(price: Price, buffer: &mut [u8], end: usize) -> usize
-    requires room { 21 ≤ end }
-    requires within { end ≤ length buffer.old }
-    ensures start { result + length (money_text price.0) ≡ end }
-    ensures written { drop result buffer.new ≡ money_text price.0 ++ drop end buffer.old }
-{
-    let units = price.0.unsigned_abs();
-    let point = end - 5;
-    write_places((units % UNITS) as u16, buffer, point);
-    let dollars = write_digits(units / UNITS, buffer, point);
-    write_sign(price.0.is_negative(), buffer, dollars)
-}
-
-/// Appends a price in the same form. At `NoMemory` the vector is as it was.
+/// Appends a price: `-` where it is negative, the whole dollars, a point and four digits. At `NoMemory` the vector is as it was.
 pub fn price_text(price: Price, out: &mut Vec<u8>) -> Result<(), NoMemory>
     ensures ok { OnOk result (out.new.items ≡ out.old.items ++ money_text price.0) }
     ensures err { OnErr result (out.new.items ≡ out.old.items) }
@@ -44,8 +17,8 @@ pub fn price_text(price: Price, out: &mut Vec<u8>) -> Result<(), NoMemory>
     ensures capacity { vec_capacity out.old ≤ vec_capacity out.new }
 {
     let mut text = [0; LONGEST_PRICE];
-    let start = write_price(price, &mut text, LONGEST_PRICE);
-    out.extend_from_slice(&text[start..])?;
+    let behind = put_price(price, &mut text, 0);
+    out.extend_from_slice(&text[..behind])?;
     Ok(())
 }
 
@@ -57,13 +30,10 @@ pub fn money_text(money: Money, out: &mut Vec<u8>) -> Result<(), NoMemory>
         (vec_capacity out.old < vec_len out.old + length (money_text money.0)) }
     ensures capacity { vec_capacity out.old ≤ vec_capacity out.new }
 {
-    let units = money.0.unsigned_abs();
-    append_dollars(
-        money.0.is_negative(),
-        units / UNITS as u128,
-        (units % UNITS as u128) as u16,
-        out,
-    )
+    let mut text = [0; LONGEST_MONEY];
+    let behind = put_money(money, &mut text, 0);
+    out.extend_from_slice(&text[..behind])?;
+    Ok(())
 }
 
 /// Appends a day as `yyyyMMdd`. At `NoMemory` the vector is as it was.
@@ -92,73 +62,6 @@ pub fn moment_text(moment: Moment, out: &mut Vec<u8>) -> Result<(), NoMemory>
     Ok(())
 }
 
-// Appends the sign, the whole dollars, a point and four digits, which are written into one array from its end on.
-fn append_dollars(
-    negative: bool,
-    dollars: u128,
-    places: u16,
-    out: &mut Vec<u8>,
-) -> Result<(), NoMemory>
-    requires { dollars < 10 ^ 35 }
-    ensures ok { OnOk result
-        (out.new.items ≡ out.old.items ++ dollars_text negative dollars places) }
-    ensures err { OnErr result (out.new.items ≡ out.old.items) }
-    ensures full { OnErr result
-        (vec_capacity out.old < vec_len out.old + length (dollars_text negative dollars places)) }
-    ensures capacity { vec_capacity out.old ≤ vec_capacity out.new }
-{
-    let mut text = [0; LONGEST];
-    write_places(places, &mut text, POINT);
-    let dollars = write_dollars(dollars, &mut text);
-    let start = write_sign(negative, &mut text, dollars);
-    out.extend_from_slice(&text[start..])?;
-    Ok(())
-}
-
-// Writes a point at a place, and four digits behind it.
-fn write_places(places: u16, text: &mut [u8], point: usize)
-    requires { point + 5 ≤ length text.old }
-    ensures size { length text.new ≡ length text.old }
-    ensures written { drop point text.new ≡ 46 ∷ (four_digits places ++ drop (point + 5) text.old) }
-{
-    let [thousands, hundreds, tens, ones] = four_digits(places);
-    text[point + 4] = ones;
-    text[point + 3] = tens;
-    text[point + 2] = hundreds;
-    text[point + 1] = thousands;
-    text[point] = b'.';
-}
-
-// Writes the whole dollars before the point, and says where they start. The digits past 64 bits go one at a time.
-fn write_dollars(dollars: u128, text: &mut [u8; LONGEST]) -> usize
-    requires { dollars < 10 ^ 35 }
-    ensures start { result + length (decimal dollars) ≡ 36 }
-    ensures room { 0 < result }
-    ensures written { drop result text.new ≡ decimal dollars ++ drop 36 text.old }
-{
-    let mut left = dollars;
-    let mut at = POINT;
-    while left > u64::MAX as u128 {
-        at -= 1;
-        text[at] = b'0' + (left % 10) as u8;
-        left /= 10;
-    }
-    write_digits(left as u64, text, at)
-}
-
-// Writes the sign of a negative amount before its first digit, and says where the text starts.
-fn write_sign(negative: bool, text: &mut [u8], digits: usize) -> usize
-    requires { (0 < digits) × (digits ≤ length text.old) }
-    ensures start { result + length (sign_text negative) ≡ digits }
-    ensures written { drop result text.new ≡ sign_text negative ++ drop digits text.old }
-{
-    if !negative {
-        return digits;
-    }
-    text[digits - 1] = b'-';
-    digits - 1
-}
-
 #[tactic(auto, unfolding(crate::specs::Printed::day_text))]
 pub(crate) fn day_bytes(day: u32) -> [u8; 8]
     requires { day ≤ 84007 }
@@ -172,7 +75,7 @@ pub(crate) fn day_bytes(day: u32) -> [u8; 8]
 }
 
 #[tactic(auto, unfolding(crate::specs::Printed::moment_text))]
-fn moment_bytes(minute: u64) -> [u8; 14]
+pub(crate) fn moment_bytes(minute: u64) -> [u8; 14]
     requires { minute ≤ 120970080 }
     ensures { result ≡ moment_text minute }
 {

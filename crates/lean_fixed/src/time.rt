@@ -1,13 +1,13 @@
-ghost use Rattle.std.specs.Prelude.{◌≡◌, ◌<◌, ◌≤◌, ◌↔◌, ◌+ℤ◌, ◌≤ℤ◌, pos, unsigned_abs, IsNone, IsSome, is_some, IfSome, option_map};
+ghost use Rattle.std.specs.Prelude.{◌≡◌, ◌<◌, ◌≤◌, ◌↔◌, ◌+ℤ◌, ◌≤ℤ◌, true, pos, unsigned_abs, IsNone, IsSome, is_some, IfSome, option_map};
 ghost use Rattle.jiff_core.specs.Calendar.{IsBetween};
 ghost use Rattle.jiff_core.specs.Date.{epoch_day, IsYmd};
 ghost use Rattle.lean_fixed.specs.Printed.{day_text};
 ghost use Rattle.lean_fixed.specs.Calendar.{is_civil, last_day, day_of_digits, civil_of, weekday};
 ghost use Rattle.lean_fixed.specs.Moments.{midnight, day_of, minute_of_day, first_moment, last_moment};
-ghost use Rattle.lean_fixed.specs.Ranges.{IsDay, IsDatedMoment};
+ghost use Rattle.lean_fixed.specs.Ranges.{IsDay, IsMoment, is_moment, IsDatedMoment};
 
 use crate::digits::read_digits;
-use crate::ranges::{LAST_DAY, MINUTES_PER_DAY};
+use crate::ranges::{FIRST_MOMENT, LAST_DAY, LAST_MOMENT, MINUTES_PER_DAY};
 use crate::texts::day_bytes;
 use jiff_core::civil::Date;
 
@@ -91,6 +91,15 @@ impl Day {
 }
 
 impl Moment {
+    /// Whether the moment lies from -10,000 to 121,000,000.
+    #[inline]
+    pub fn is_in_range(self) -> bool
+        ensures value { result ≡ is_moment self.0 }
+        ensures range { (result ≡ true) ↔ IsMoment self.0 }
+    {
+        FIRST_MOMENT <= self.0 && self.0 <= LAST_MOMENT
+    }
+
     /// The day on which the moment lies. `None` exactly where it lies on none of the days that there are: before
     /// 1970-01-01 00:00, or at or after 24:00 of 2199-12-31.
     pub fn day(self) -> Option<Day>

@@ -1,8 +1,8 @@
-use Rattle.std.proofs.Common.{ℕ, ◌≡◌, true, false, List, Option, Some, None, Result, Ok, Err, IfOk, OnOk, OnErr, refl, ap, ◌∙◌, arith}
+use Rattle.std.proofs.Common.{ℕ, ◌+◌, ◌≡◌, true, false, List, Option, Some, None, Result, Ok, Err, IfOk, OnOk, OnErr, refl, ap, ◌∙◌, arith}
 use Rattle.std.proofs.lemmas.Result.{IfOk-weaker, on_ok_weaker, on_err_weaker}
 use Rattle.lean_io.specs.Told.{Files, Rose}
 use Rattle.lean_io.specs.Counts.{raised}
-use Rattle.lean_io.specs.DirHand.{DirHandState, failed, new_hand, SameFile}
+use Rattle.lean_io.specs.DirHand.{DirState, DirHandState, given, failed, new_hand, SameFile}
 
 -- a count that was raised by one rose
 rose_when_raised : (before now : ℕ) → now ≡ raised before 1 → Rose before now
@@ -50,6 +50,9 @@ module _ {E : Type 0} where
   hand_new r = IfOk-weaker r (λ h. h ≡ new_hand) (λ h. (h.faults ≡ 0) × (h.is_open ≡ false))
       (λ h e. (ap (λ (s : DirHandState). s.faults) e, ap (λ (s : DirHandState). s.is_open) e))
 
-  pub hand_unchanged : (r : Result DirHandState E) (before now : ℕ) → now ≡ before → OnErr r (now ≡ before)
-  hand_unchanged (Ok _) before now e = tt
-  hand_unchanged (Err _) before now e = e
+  pub hand_out : (r : Result DirHandState E) (before now : DirState) → OnOk r (now ≡ given before) → OnOk r (now.hands ≡ before.hands + 1)
+  hand_out r before now = on_ok_weaker r (λ (e : now ≡ given before). ap (λ (d : DirState). d.hands) e)
+
+  pub hand_same : (r : Result DirHandState E) (before now : DirState) → OnOk r (now ≡ given before) → OnErr r (now ≡ before) → now.faults ≡ before.faults
+  hand_same (Ok _) before now e none = ap (λ (d : DirState). d.faults) e
+  hand_same (Err _) before now none e = ap (λ (d : DirState). d.faults) e

@@ -1,7 +1,16 @@
--- The state of a hand of a directory, and how it is changed by what the system answers.
-use Rattle.std.specs.Prelude.{◌≡◌, ℕ, Bool, false, List, [], Option, Some, None, Result, Ok, Err}
+-- The states of a directory and of its hands, and how a hand is changed by what the system answers.
+use Rattle.std.specs.Prelude.{◌≡◌, ℕ, ◌+◌, ◌-◌, Bool, false, List, [], Option, Some, None, Result, Ok, Err}
 use Rattle.std.specs.Io.KnownBytes.{prepend_known}
 use Rattle.lean_io.specs.Counts.{raised}
+
+-- a directory: how many of its hands are out, and how many faults were met by those that were taken back
+pub record DirState : Type 0 where
+  pub hands : ℕ
+  pub faults : ℕ
+
+-- a directory of which no hand was given
+abbrev pub new_directory : DirState
+new_directory = record { hands = 0; faults = 0 }
 
 -- a hand of a directory: whether a file is open, the bytes that were read ahead, what of the file is not read yet where
 -- the runtime's file tells it, and how many faults the hand met
@@ -14,6 +23,13 @@ pub record DirHandState : Type 0 where
 -- a new hand
 abbrev pub new_hand : DirHandState
 new_hand = record { is_open = false; ahead = []; unread = None; faults = 0 }
+
+-- a directory after it gave a hand, and after it took one back
+abbrev pub given : DirState → DirState
+given directory = record { hands = directory.hands + 1; faults = directory.faults }
+
+abbrev pub taken_back : DirState → DirHandState → DirState
+taken_back directory hand = record { hands = directory.hands - 1; faults = raised directory.faults hand.faults }
 
 -- a hand after an opening that found a file or none, with what the file has, and with nothing read ahead
 abbrev pub opened : DirHandState → Bool → Option (List ℕ) → DirHandState

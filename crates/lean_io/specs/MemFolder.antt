@@ -1,5 +1,5 @@
 -- The state of a folder in memory and of its hands, and what each call does to them.
-use Rattle.std.specs.Prelude.{ℕ, Bool, false, ◌==◌, ◌&&◌, List, [], drop, Option, Some, None, option_map, unwrap_or, slice_get, String, Vec, string_bytes, bytes_eq}
+use Rattle.std.specs.Prelude.{ℕ, ◌+◌, ◌-◌, Bool, false, ◌==◌, ◌&&◌, List, [], drop, Option, Some, None, option_map, unwrap_or, slice_get, String, Vec, string_bytes, bytes_eq}
 use Rattle.std.specs.Global.{Global}
 use Rattle.std.specs.Option.{option_map_or}
 use Rattle.std.specs.List.{list_any}
@@ -27,11 +27,12 @@ map_files m path = option_map (λ v. v.items) (get_by_text m path)
 abbrev pub is_listed : List (String Global × ℕ) → List ℕ → ℕ → Bool
 is_listed fails path call = list_any (λ p. bytes_eq (string_bytes p.0) path && (p.1 == call)) fails
 
--- a folder in memory: the entries of its files, the calls that fail, and how many faults were met by the hands that
--- were taken back
+-- a folder in memory: the entries of its files, the calls that fail, how many hands are out, and how many faults were met
+-- by those that were taken back
 pub record FolderState : Type 0 where
   pub entries : List Entry
   pub fails : List (String Global × ℕ)
+  pub hands : ℕ
   pub faults : ℕ
 
 -- a hand of it: besides these the path of the open file, what of it is not read yet, how many reads were made since
@@ -43,6 +44,13 @@ pub record HandState : Type 0 where
   pub rest : List ℕ
   pub reads : ℕ
   pub faults : ℕ
+
+-- a folder after it gave a hand, and after it took one back
+abbrev pub given : FolderState → FolderState
+given m = record m { hands = m.hands + 1 }
+
+abbrev pub taken_back : FolderState → HandState → FolderState
+taken_back m hand = record m { hands = m.hands - 1; faults = raised m.faults hand.faults }
 
 -- a new hand of a folder
 abbrev pub hand_of : FolderState → HandState

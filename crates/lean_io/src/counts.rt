@@ -1,6 +1,7 @@
-ghost use Rattle.std.specs.Prelude.{◌≡◌, ◌≤◌};
+ghost use Rattle.std.specs.Prelude.{◌≡◌, ◌+◌, ◌≤◌, IfOk};
 ghost use Rattle.lean_io.specs.Counts.{raised};
 
+use lean_fixed::NoMemory;
 use std::marker::Model;
 
 // How often something happened, as faults, reads and writes are counted. It stands still at its
@@ -45,5 +46,16 @@ impl Count {
         ensures grows { self.old ≤ self.new }
     {
         self.0 = self.0.saturating_add(more.0);
+    }
+}
+
+// The number of hands that are out when one more is. `NoMemory`: 2^64 - 1 are out, for which no
+// memory is enough.
+pub fn one_more(hands: u64) -> Result<u64, NoMemory>
+    ensures { IfOk result (λ more. more ≡ hands + 1) }
+{
+    match hands.checked_add(1) {
+        Some(more) => Ok(more),
+        None => Err(NoMemory),
     }
 }

@@ -1,5 +1,5 @@
 use crate::ahead::Ahead;
-use crate::counts::Count;
+use crate::counts::{Count, one_more};
 use crate::outside::{Failed, Folder, Hand};
 use lean_fixed::NoMemory;
 use std::alloc::Global;
@@ -8,32 +8,35 @@ use std::marker::Model;
 use std::rt::Files;
 use std::{fs, io};
 
-/// The files of the current directory. It tells nothing of their content, and counts the faults of
-/// the hands that were taken back. Contracts see it as that count.
+/// The files of the current directory. It tells nothing of their content, and counts the hands that
+/// are out and the faults of those that were taken back. Contracts see it as these counts.
 #[derive(Drop)]
 pub struct DirFolder<R> {
     rt: R,
+    hands: u64,
     faults: Count,
 }
 
 impl<R> Model for DirFolder<R> {
-    ghost use Rattle.std.specs.Prelude.{ℕ};
+    ghost use Rattle.lean_io.specs.DirHand.{DirState};
 
-    ghost Value = { ℕ };
+    ghost Value = { DirState };
 
-    ghost view = { λ s. s.faults };
+    ghost view = { λ s. record { hands = s.hands; faults = s.faults } };
 }
 
 impl<R: Files + Copy + Send + Drop + 'static> DirFolder<R> {
     ghost use Rattle.std.specs.Prelude.{◌≡◌};
+    ghost use Rattle.lean_io.specs.DirHand.{new_directory};
 
-    /// The files whose paths are taken from the current directory of a runtime, with no fault
-    /// counted.
+    /// The files whose paths are taken from the current directory of a runtime, with no hand out and
+    /// no fault counted.
     pub fn new(rt: R) -> DirFolder<R>
-        ensures { result ≡ 0 }
+        ensures { result ≡ new_directory }
     {
         DirFolder {
             rt,
+            hands: 0,
             faults: Count::new(),
         }
     }
@@ -43,21 +46,24 @@ impl<R: Files + Copy + Send + Drop + 'static> Folder for DirFolder<R>
 where
     R::File: Send,
 {
-    ghost use Rattle.std.specs.Prelude.{◌≡◌, ◌≤◌, None, IfOk};
-    ghost use Rattle.lean_io.specs.Counts.{raised};
-    ghost use Rattle.lean_io.specs.DirHand.{new_hand};
+    ghost use Rattle.std.specs.Prelude.{◌≡◌, ◌≤◌, None, IfOk, OnOk, OnErr};
+    ghost use Rattle.lean_io.specs.DirHand.{new_hand, given, taken_back};
 
     type H = DirHand<R>;
 
     ghost files = { λ _. None };
 
-    ghost faults = { λ s. s };
+    ghost faults = { λ s. s.faults };
+
+    ghost hands = { λ s. s.hands };
 
     fn hand(&mut self, alloc: Global) -> Result<DirHand<R>, NoMemory>
         ensures hand { IfOk result (λ h. h ≡ new_hand) }
-        ensures same { self.new ≡ self.old }
+        ensures given { OnOk result (self.new ≡ given self.old) }
+        ensures same { OnErr result (self.new ≡ self.old) }
     {
         let ahead = Ahead::new(alloc)?;
+        self.hands = one_more(self.hands)?;
         Ok(DirHand {
             rt: self.rt,
             file: None,
@@ -67,9 +73,10 @@ where
     }
 
     fn take_back(&mut self, hand: DirHand<R>)
-        ensures raised { self.new ≡ raised self.old hand.faults }
-        ensures grows { self.old ≤ self.new }
+        ensures back { self.new ≡ taken_back self.old hand }
+        ensures grows { self.old.faults ≤ self.new.faults }
     {
+        self.hands = self.hands.saturating_sub(1);
         self.faults.add(&hand.faults);
     }
 }

@@ -1,7 +1,7 @@
 ghost use Rattle.std.specs.Prelude.{◌≡◌, ◌<◌, ◌==◌, ◌&&◌, Some, None, length, IfOk, IfSome, IfNone, string_bytes, bytes_eq};
 ghost use Rattle.lean_io.specs.MemFolder.{map_files, entry_files, is_listed, path_at, bytes_at};
 
-use crate::counts::Count;
+use crate::counts::{Count, one_more};
 use crate::outside::{Failed, Folder, Hand};
 use lean_fixed::NoMemory;
 use std::alloc::Global;
@@ -20,6 +20,7 @@ struct Store {
 #[derive(Drop)]
 pub struct MemFolder {
     store: Arc<Store>,
+    hands: u64,
     faults: Count,
 }
 
@@ -32,6 +33,7 @@ impl Model for MemFolder {
     ghost view = { λ m. record {
       entries = (arc_value m.store).entries.items;
       fails = (arc_value m.store).fails.items;
+      hands = m.hands;
       faults = m.faults;
     } };
 }
@@ -46,13 +48,14 @@ impl MemFolder {
         fails: Vec<(String, u64)>,
     ) -> Result<MemFolder, NoMemory>
         ensures made { IfOk result (λ m. m
-            ≡ record { entries = files.entries; fails = fails.items; faults = 0 }) }
+            ≡ record { entries = files.entries; fails = fails.items; hands = 0; faults = 0 }) }
         ensures told { IfOk result (λ m. entry_files m.entries ≡ map_files files) }
     {
         let entries: Vec<(String, Vec<u8>)> = files.into_iter().collect(alloc)?;
         let store = Arc::new(alloc, Store { entries, fails })?;
         Ok(MemFolder {
             store,
+            hands: 0,
             faults: Count::new(),
         })
     }
@@ -107,9 +110,8 @@ impl MemHand {
 }
 
 impl Folder for MemFolder {
-    ghost use Rattle.std.specs.Prelude.{◌≡◌, ◌≤◌, Some, IfOk};
-    ghost use Rattle.lean_io.specs.Counts.{raised};
-    ghost use Rattle.lean_io.specs.MemFolder.{entry_files, hand_of};
+    ghost use Rattle.std.specs.Prelude.{◌≡◌, ◌≤◌, Some, IfOk, OnOk, OnErr};
+    ghost use Rattle.lean_io.specs.MemFolder.{entry_files, hand_of, given, taken_back};
 
     type H = MemHand;
 
@@ -117,11 +119,15 @@ impl Folder for MemFolder {
 
     ghost faults = { λ m. m.faults };
 
+    ghost hands = { λ m. m.hands };
+
     fn hand(&mut self, alloc: Global) -> Result<MemHand, NoMemory>
         ensures hand { IfOk result (λ h. h ≡ hand_of self.old) }
-        ensures same { self.new ≡ self.old }
+        ensures given { OnOk result (self.new ≡ given self.old) }
+        ensures same { OnErr result (self.new ≡ self.old) }
     {
         let store = self.store.clone()?;
+        self.hands = one_more(self.hands)?;
         Ok(MemHand {
             store,
             place: None,
@@ -132,10 +138,10 @@ impl Folder for MemFolder {
     }
 
     fn take_back(&mut self, hand: MemHand)
-        ensures raised { self.new
-            ≡ record self.old { faults = raised self.old.faults hand.faults } }
+        ensures back { self.new ≡ taken_back self.old hand }
         ensures grows { self.old.faults ≤ self.new.faults }
     {
+        self.hands = self.hands.saturating_sub(1);
         self.faults.add(&hand.faults);
     }
 }

@@ -1,4 +1,4 @@
-ghost use Rattle.std.specs.Prelude.{◌≡◌, ℕ, ◌<◌, ◌≤◌, ◌++◌, Bool, false, true, List, Option, Some, length, take, IfOk, OnOk, OnErr, option_map};
+ghost use Rattle.std.specs.Prelude.{◌≡◌, ℕ, ◌+◌, ◌-◌, ◌<◌, ◌≤◌, ◌++◌, Bool, false, true, List, Option, Some, length, take, IfOk, OnOk, OnErr, option_map};
 ghost use Rattle.lean_io.specs.Told.{Files, Opened, Reads, Rose};
 ghost use Rattle.lean_io.specs.Counts.{raised};
 
@@ -65,6 +65,9 @@ pub trait Folder {
     /// How many faults were met by the hands that were taken back.
     ghost faults: { Self → ℕ };
 
+    /// How many hands were given and not taken back.
+    ghost hands: { Self → ℕ };
+
     /// Gives a hand that reads the folder's files, with no fault met and no file open. `NoMemory`:
     /// there is no memory for it, and the folder is as it was.
     fn hand(&mut self, alloc: Global) -> Result<Self::H, NoMemory>
@@ -72,6 +75,7 @@ pub trait Folder {
         ensures fresh { IfOk result (λ h. (Self.H.faults h ≡ 0) × (Self.H.is_open h ≡ false)) }
         ensures kept { files self.new ≡ files self.old }
         ensures same { faults self.new ≡ faults self.old }
+        ensures out { OnOk result (hands self.new ≡ hands self.old + 1) }
         ensures unchanged { OnErr result (self.new ≡ self.old) };
 
     /// Takes a hand back, and adds the faults that it met to the folder's count, which stands still
@@ -79,7 +83,8 @@ pub trait Folder {
     fn take_back(&mut self, hand: Self::H)
         ensures kept { files self.new ≡ files self.old }
         ensures grows { faults self.old ≤ faults self.new }
-        ensures raised { faults self.new ≡ raised (faults self.old) (Self.H.faults hand) };
+        ensures raised { faults self.new ≡ raised (faults self.old) (Self.H.faults hand) }
+        ensures back { hands self.new ≡ hands self.old - 1 };
 }
 
 /// Takes what is printed.

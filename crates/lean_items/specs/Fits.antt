@@ -1,25 +1,12 @@
 -- Which item may come behind another in the list of a feed: its numbers are in their ranges, and the ends of bars rise, while
 -- those of coarse rows do not fall.
-use Rattle.std.specs.Prelude.{◌≡◌, ℤ, pos, neg_ℤ, int_lt, int_le, Bool, true, ◌&&◌, List, [], ◌∷◌}
-use Rattle.lean_fixed.specs.Ranges.{most_price, most_volume}
+use Rattle.std.specs.Prelude.{◌≡◌, ℤ, int_lt, int_le, Bool, true, ◌&&◌, List, [], ◌∷◌}
+pub use Rattle.lean_fixed.specs.Ranges.{is_within, is_moment, is_price, is_volume}
 use Rattle.lean_items.specs.declared.bar.Bar.{Bar}
 use Rattle.lean_items.specs.declared.coarse_row.CoarseRow.{CoarseRow}
 use Rattle.lean_items.specs.declared.item.Item.{Item}
 use Rattle.lean_items.specs.declared.item.Item.TheVariants.{Bar as BarItem, Coarse as CoarseItem, Bad, Faulted, End}
-use Rattle.lean_items.specs.Coarse.{most_dollars}
-
--- from one number to another, both included
-abbrev pub is_within : ℤ → ℤ → ℤ → Bool
-is_within low high n = int_le low n && int_le n high
-
-abbrev pub is_moment : ℤ → Bool
-is_moment n = is_within (neg_ℤ (pos 10000)) (pos 121000000) n
-
-abbrev pub is_price : ℤ → Bool
-is_price n = is_within (pos 1) (pos most_price) n
-
-abbrev pub is_volume : ℤ → Bool
-is_volume n = is_within (pos 0) (pos most_volume) n
+use Rattle.lean_items.specs.Coarse.{is_close, is_dollars}
 
 -- the numbers of a bar are in their ranges
 unfoldable pub is_bar_in_range : Bar → Bool
@@ -31,8 +18,7 @@ is_bar_in_range bar =
 -- the numbers of a coarse row and of its moment are in their ranges
 unfoldable pub is_row_in_range : ℤ → CoarseRow → Bool
 is_row_in_range at row =
-    is_moment at && is_within (pos 0) (pos most_price) row.close.0 && is_volume row.volume.0
-    && is_within (pos 0) (pos most_dollars) row.dollars
+    is_moment at && is_close row.close.0 && is_volume row.volume.0 && is_dollars row.dollars
 
 -- an item may come behind one that ends at a moment
 abbrev pub fits : ℤ → Item → Bool

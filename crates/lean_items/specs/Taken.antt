@@ -15,6 +15,12 @@ Follows list taken =
     ((rest : List Item) × (list ≡ taken ++ rest))
     ⊎ ((rows rest : List Item) × (taken ≡ rows ++ Faulted ∷ []) × (list ≡ rows ++ rest) × All IsRow rows)
 
+-- what a pool's folder had when the pool was new: the faults that were met by the hands that were taken back, and the hands
+-- that were out
+pub record Start : Type 0 where
+  pub faults : ℕ
+  pub hands : ℕ
+
 -- the key of a feed, and what was taken of it
 pub record Taken : Type 0 where
   pub key : FeedKey

@@ -1,3 +1,6 @@
+ghost use Rattle.std.specs.Prelude.{◌≡◌};
+ghost use Rattle.lean_items.specs.Fits.{is_bar_in_range};
+
 use lean_fixed::{Moment, Price, Shares};
 
 /// The trades of a security from one moment to another, after the trade bar of LEAN's "Handling Data" topic.
@@ -17,4 +20,21 @@ pub struct Bar {
     pub volume: Shares,
     /// Whether the bar was read from a file. A bar that was filled forward is not real.
     pub real: bool,
+}
+
+impl Bar {
+    /// Whether the bar's numbers are in their ranges: its moments from -10,000 to 121,000,000, its prices from 1 to
+    /// 10,000,000,000, and its volume from 0 to 10^15.
+    #[tactic(auto, unfolding(crate::specs::Fits::is_bar_in_range))]
+    pub fn is_in_range(&self) -> bool
+        ensures { result ≡ is_bar_in_range self.now }
+    {
+        self.start.is_in_range()
+            && self.end.is_in_range()
+            && self.opening.is_in_range()
+            && self.high.is_in_range()
+            && self.low.is_in_range()
+            && self.closing.is_in_range()
+            && self.volume.is_volume()
+    }
 }

@@ -4,7 +4,7 @@ ghost use Rattle.lean_fixed.specs.Ranges.{IsMoment};
 ghost use Rattle.lean_items.specs.declared.feed_key.FeedKey.{FeedKey};
 ghost use Rattle.lean_items.specs.declared.item.Item.{Item};
 ghost use Rattle.lean_items.specs.Given.{is_last, OnRow};
-ghost use Rattle.lean_items.specs.Taken.{Feeds, added_to, taken_of, AllFollow, FaultsRose};
+ghost use Rattle.lean_items.specs.Taken.{Start, Feeds, added_to, taken_of, AllFollow, FaultsRose};
 
 use crate::{FeedKey, FeedNo, Finished, Item};
 use lean_fixed::NoMemory;
@@ -24,6 +24,9 @@ pub trait Pool {
     /// How many faults the folder and the hands that were given back to it have met.
     ghost faults: { Self → ℕ };
 
+    /// How many hands of the folder are out.
+    ghost hands: { Self → ℕ };
+
     /// How many feeds were ever added.
     ghost added: { Self → ℕ };
 
@@ -33,8 +36,8 @@ pub trait Pool {
     /// No more rows than this can be taken of the feed of a number.
     ghost room: { Self → ℕ → ℕ };
 
-    /// At a count of faults the pool was new, and since then this was taken of its feeds.
-    ghost stands: { Self → ℕ → Feeds → Type 0 };
+    /// The folder had these counts when the pool was new, and since then this was taken of its feeds.
+    ghost stands: { Self → Start → Feeds → Type 0 };
 
     /// Where the folder is borrowed, which stays the same.
     ghost place: { Self → GName };
@@ -51,8 +54,8 @@ pub trait Pool {
         ensures added { OnOk result (added self.new ≡ added self.old + 1) }
         ensures opened { IfOk result (λ feed. (n : ℕ)
             → is_open self.new n ≡ (if n == feed.0 then true else is_open self.old n)) }
-        ensures stands { (before : ℕ) (feeds : Feeds) → stands self.old before feeds
-            → stands self.new before (added_to feeds key result) }
+        ensures stands { (start : Start) (feeds : Feeds) → stands self.old start feeds
+            → stands self.new start (added_to feeds key result) }
         ensures files { files self.new ≡ files self.old }
         ensures lists { lists self.new ≡ lists self.old }
         ensures grows { faults self.old ≤ faults self.new }
@@ -64,8 +67,8 @@ pub trait Pool {
         ensures opened { (n : ℕ)
             → is_open self.new n ≡ (if n == feed.0 then not (is_last result) else is_open self.old n) }
         ensures fewer { OnRow result (room self.new feed.0 < room self.old feed.0) }
-        ensures stands { (before : ℕ) (feeds : Feeds) → stands self.old before feeds
-            → stands self.new before (taken_of feeds feed.0 result) }
+        ensures stands { (start : Start) (feeds : Feeds) → stands self.old start feeds
+            → stands self.new start (taken_of feeds feed.0 result) }
         ensures added { added self.new ≡ added self.old }
         ensures files { files self.new ≡ files self.old }
         ensures lists { lists self.new ≡ lists self.old }
@@ -76,23 +79,25 @@ pub trait Pool {
     fn remove(&mut self, feed: FeedNo)
         ensures opened { (n : ℕ)
             → is_open self.new n ≡ (if n == feed.0 then false else is_open self.old n) }
-        ensures stands { (before : ℕ) (feeds : Feeds) → stands self.old before feeds
-            → stands self.new before feeds }
+        ensures stands { (start : Start) (feeds : Feeds) → stands self.old start feeds
+            → stands self.new start feeds }
         ensures added { added self.new ≡ added self.old }
         ensures files { files self.new ≡ files self.old }
         ensures lists { lists self.new ≡ lists self.old }
         ensures grows { faults self.old ≤ faults self.new }
         ensures place { place self.new ≡ place self.old };
 
-    /// Gives all hands back to the folder, so that its count of faults holds theirs, and says how many feeds were ever
-    /// added. What was taken of each feed follows the list of its key, and a failed read was taken only where the count
-    /// rose since the pool was new. After this call the pool is only let go.
+    /// Gives all hands back to the folder, so that its count of faults holds theirs and as many hands are out as when the
+    /// pool was new, and says how many feeds were ever added. What was taken of each feed follows the list of its key, and
+    /// a failed read was taken only where the count rose since the pool was new. After this call the pool is only let go.
     fn finish(&mut self) -> Finished
         ensures feeds { result.feeds ≡ added self.old }
-        ensures follow { (before : ℕ) (feeds : Feeds) → stands self.old before feeds
+        ensures follow { (start : Start) (feeds : Feeds) → stands self.old start feeds
             → (lists : FeedKey → List Item) → Self.lists self.old ≡ Some lists → AllFollow lists feeds }
-        ensures rose { (before : ℕ) (feeds : Feeds) → stands self.old before feeds
-            → FaultsRose feeds before (faults self.new) }
+        ensures rose { (start : Start) (feeds : Feeds) → stands self.old start feeds
+            → FaultsRose feeds start.faults (faults self.new) }
+        ensures hands { (start : Start) (feeds : Feeds) → stands self.old start feeds
+            → hands self.new ≡ start.hands }
         ensures files { files self.new ≡ files self.old }
         ensures lists { lists self.new ≡ lists self.old }
         ensures grows { faults self.old ≤ faults self.new }

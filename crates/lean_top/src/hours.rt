@@ -33,6 +33,7 @@ pub fn read_hours<F: Folder>(alloc: Global, folder: &mut F) -> Result<HoursRead,
     ensures cause { IfOk result (λ read. HasHoursCause (F.faults folder.old) (F.faults folder.new) read) }
     ensures kept { F.files folder.new ≡ F.files folder.old }
     ensures grows { F.faults folder.old ≤ F.faults folder.new }
+    ensures hands { F.hands folder.new ≡ F.hands folder.old }
 {
     let mut hand = folder.hand(alloc)?;
     let read = hours_by(alloc, &mut hand);

@@ -54,6 +54,8 @@ impl<F: Folder + Drop> Folder for SlowFolder<F> {
 
     ghost faults = { λ f. F.faults f.inner };
 
+    ghost hands = { λ f. F.hands f.inner };
+
     fn hand(&mut self, alloc: Global) -> Result<SlowHand<F::H>, NoMemory> {
         match self.inner.hand(alloc) {
             Ok(inner) => Ok(SlowHand { inner }),

@@ -1,4 +1,4 @@
-pub mod EachLemmas
+pub mod OnlyLemmas
 pub mod OpenLemmas
 pub mod StandLemmas
 pub mod TookLemmas

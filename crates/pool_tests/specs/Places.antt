@@ -7,8 +7,8 @@ use Rattle.lean_items.specs.declared.feed_key.FeedKey.{FeedKey}
 use Rattle.lean_items.specs.declared.item.Item.{Item}
 use Rattle.lean_items.specs.declared.item.Item.TheVariants.{Bar, Coarse, Bad, Faulted, End}
 use Rattle.lean_items.specs.Given.{IsRow}
-use Rattle.lean_items.specs.Taken.{Taken, Feeds, Follows}
-use Rattle.pool_tests.specs.Each.{AtEach}
+use Rattle.lean_items.specs.Taken.{Start, Taken, Feeds, Follows}
+use Rattle.feed_pool.specs.Each.{AtEach}
 use Rattle.pool_tests.specs.Scripts.{list_of}
 
 -- a feed that fills begins at the first item of the script, and another at the second
@@ -45,6 +45,7 @@ pub record Standing (items : List Item) (before now : ℕ) (place : Option ℕ) 
   pub left : (p : ℕ) → place ≡ Some p → (list_at items taken.key ≡ taken.items ++ list_of (drop p items)) × All IsRow taken.items
   pub rose : Contains taken.items Faulted → Rose before now
 
-pub record Stands (items : List Item) (before now : ℕ) (places : List (Option ℕ)) (feeds : Feeds) : Type 0 where
-  pub since : before ≤ now
-  pub each : AtEach (Standing items before now) places feeds
+pub record Stands (items : List Item) (start : Start) (now : ℕ) (places : List (Option ℕ)) (feeds : Feeds) : Type 0 where
+  pub since : start.faults ≤ now
+  pub each : AtEach (Standing items start.faults now) places feeds
+  pub no_hands : start.hands ≡ 0

@@ -8,7 +8,7 @@ use lean_fixed::NoMemory;
 use lean_items::{FeedKey, FeedNo, Finished, Item, Pool};
 use std::alloc::Global;
 
-/// A pool of feeds of one script, which borrows the count of faults that it raises.
+/// A pool of feeds of one script, which borrows the count of faults that it raises. It has no hands.
 #[derive(Drop)]
 pub struct MemPool<'a> {
     faults: &'a mut u64,
@@ -24,7 +24,7 @@ impl<'a> MemPool<'a> {
 
     /// A pool of the feeds of a script, with none added.
     pub fn new(alloc: Global, script: Script, faults: &'a mut u64) -> MemPool<'a>
-        ensures stands { ⟦<MemPool<'a> as Pool>⟧.stands result faults.old no_feeds }
+        ensures stands { ⟦<MemPool<'a> as Pool>⟧.stands result (record { faults = faults.old; hands = 0 }) no_feeds }
         ensures lists { ⟦<MemPool<'a> as Pool>⟧.lists result ≡ Some (list_at (items_of script)) }
         ensures added { ⟦<MemPool<'a> as Pool>⟧.added result ≡ 0 }
         ensures place { ⟦<MemPool<'a> as Pool>⟧.place result ≡ faults.entry.ghost_name }
@@ -48,13 +48,15 @@ impl Pool for MemPool<'_> {
 
     ghost faults = { λ pool. pool.faults.now };
 
+    ghost hands = { λ _. 0 };
+
     ghost added = { λ pool. vec_len pool.places };
 
     ghost is_open = { λ pool n. is_open_at pool.places.items n };
 
     ghost room = { λ pool n. room_behind (vec_len pool.script.items) (slice_index_or pool.places.items n None) };
 
-    ghost stands = { λ pool before feeds. Stands (items_of pool.script) before pool.faults.now pool.places.items feeds };
+    ghost stands = { λ pool start feeds. Stands (items_of pool.script) start pool.faults.now pool.places.items feeds };
 
     ghost place = { λ pool. pool.faults.ghost_name };
 

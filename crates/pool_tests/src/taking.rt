@@ -1,4 +1,4 @@
-ghost use Rattle.std.specs.Prelude.{◌≡◌, ℕ, ◌<◌, ◌≤◌, ◌^◌, false, List, Some, IfOk};
+ghost use Rattle.std.specs.Prelude.{◌≡◌, ◌<◌, ◌≤◌, ◌^◌, false, List, Some, IfOk, OnOk};
 ghost use Rattle.std.specs.List.{Contains};
 ghost use Rattle.lean_fixed.specs.Counts.{Rose};
 ghost use Rattle.lean_fixed.specs.Ranges.{IsMoment};
@@ -6,7 +6,7 @@ ghost use Rattle.lean_items.specs.declared.feed_key.FeedKey.{FeedKey as Key};
 ghost use Rattle.lean_items.specs.declared.item.Item.{Item as GivenItem};
 ghost use Rattle.lean_items.specs.declared.item.Item.TheVariants.{Faulted};
 ghost use Rattle.lean_items.specs.Given.{is_last};
-ghost use Rattle.lean_items.specs.Taken.{no_feeds, Follows};
+ghost use Rattle.lean_items.specs.Taken.{Start, no_feeds, Follows};
 
 use lean_fixed::NoMemory;
 use lean_items::{Feed, FeedKey, Item, Pool};
@@ -17,10 +17,11 @@ use std::alloc::Global;
 pub fn take_all<P: Pool>(alloc: Global, pool: &mut P, key: FeedKey) -> Result<Vec<Item>, NoMemory>
     requires few { P.added pool.old < 2 ^ 60 }
     requires key { IsMoment key.start.0 }
-    ensures follow { IfOk result (λ items. (before : ℕ) → P.stands pool.old before no_feeds
+    ensures follow { IfOk result (λ items. (before : Start) → P.stands pool.old before no_feeds
         → (lists : Key → List GivenItem) → P.lists pool.old ≡ Some lists → Follows (lists key) items.items) }
-    ensures rose { IfOk result (λ items. (before : ℕ) → P.stands pool.old before no_feeds
-        → Contains items.items Faulted → Rose before (P.faults pool.new)) }
+    ensures rose { IfOk result (λ items. (before : Start) → P.stands pool.old before no_feeds
+        → Contains items.items Faulted → Rose before.faults (P.faults pool.new)) }
+    ensures hands { OnOk result ((before : Start) → P.stands pool.old before no_feeds → P.hands pool.new ≡ before.hands) }
     ensures files { P.files pool.new ≡ P.files pool.old }
     ensures grows { P.faults pool.old ≤ P.faults pool.new }
     ensures place { P.place pool.new ≡ P.place pool.old }

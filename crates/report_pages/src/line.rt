@@ -8,9 +8,10 @@ ghost use Rattle.report_pages.specs.Lines.{part, row_line, end_line, data_line};
 use crate::trades::Trades;
 use feed_paths::path_text;
 use itoa::{Buffer, write_digits};
-use lean_fixed::laws::{price_text_is_short, symbol_is_short};
+use lean_fixed::laws::symbol_is_short;
 use lean_fixed::ranges::LAST_DAY;
-use lean_fixed::{Moment, NoMemory, Price, Symbol, write_price};
+use lean_fixed::writing::{LONGEST_PRICE, put_price};
+use lean_fixed::{Moment, NoMemory, Price, Symbol};
 use lean_items::{Bad, FeedKey, FeedKind};
 use std::alloc::Global;
 
@@ -80,10 +81,11 @@ fn write_signed_price(price: Price, line: &mut [u8], end: usize) -> usize
     ensures size { length line.new ≡ length line.old }
     ensures written { drop result line.new ≡ part (money_text price.0) ++ drop end line.old }
 {
-    price_text_is_short(price);
-    let text = write_price(price, line, end);
-    line[text - 1] = b' ';
-    text - 1
+    let mut text = [0; LONGEST_PRICE];
+    let behind = put_price(price, &mut text, 0);
+    let at = write_text(&text[..behind], line, end);
+    line[at - 1] = b' ';
+    at - 1
 }
 
 // The same of a number of 1/10000 dollar.

@@ -1,5 +1,6 @@
 -- A feed of rows: what it was made with, and the items that it has left to give.
-use Rattle.std.specs.Prelude.{◌≡◌, ℕ, ℤ, Bool, List, Option, Some}
+use Rattle.std.specs.Prelude.{◌≡◌, ◌≤◌, ℕ, ℤ, Bool, true, List, Option, Some}
+use Rattle.lean_fixed.specs.Moments.{last_moment}
 use Rattle.lean_fixed.specs.declared.time.Window.{Window}
 use Rattle.lean_io.specs.Told.{Files}
 use Rattle.lean_io.specs.declared.outside.Hand.{Ghosts}
@@ -10,6 +11,7 @@ use Rattle.row_feed.specs.declared.feed.RowFeed.{RowFeed}
 use Rattle.row_feed.specs.Reach.{room}
 use Rattle.row_feed.specs.Reader as reader
 use Rattle.row_feed.specs.Course.{hours_of as course_hours, files_room, CourseLeaves}
+use Rattle.row_feed.specs.Steps.{StepIsOfKind, StepWithin, StepIsShorter, at_after, step_fits}
 pub use Rattle.row_feed.specs.Steps.{IsOfKind}
 
 module _ {H : Type 0} {g : Ghosts H} where
@@ -51,3 +53,16 @@ module _ {H : Type 0} {g : Ghosts H} where
     pub key : key_of new ≡ key_of old
     pub window : window_of new ≡ window_of old
     pub hours : hours_of new ≡ hours_of old
+
+  -- What a step does, whatever it gives, where the hand tells these files and has met so many faults: a row ends past the one
+  -- before it and within the window, has its numbers in their ranges and is of the feed's kind; less room is left; the hand
+  -- tells the files that it told, and forgets no fault; and the feed keeps what it was made with.
+  pub record Goes (told : H → Option Files) (faults : H → ℕ) (old new : RowFeed H g) (result : Option Item) : Type 0 where
+    pub fits : step_fits (at_of old) result ≡ true
+    pub at : at_of new ≡ at_after (at_of old) result
+    pub within : StepWithin (last_moment (window_of old)) result
+    pub kind : StepIsOfKind (key_of old).kind result
+    pub fewer : StepIsShorter (room_of old) (room_of new) result
+    pub grows : faults (hand_of old) ≤ faults (hand_of new)
+    pub files : told (hand_of new) ≡ told (hand_of old)
+    pub kept : Keeps old new

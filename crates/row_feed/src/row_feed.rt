@@ -25,8 +25,8 @@ impl<H: Hand> RowFeed<H> {
     ghost use Rattle.lean_items.specs.Given.{is_last, OnRow, OnFaulted, GivesItem};
     ghost use Rattle.lean_items.specs.Fits.{fits, end_or};
     ghost use Rattle.clock_feeds.specs.Feeds.{rows};
-    ghost use Rattle.row_feed.specs.Steps.{StepGives, StepIsOfKind, StepWithin, StepIsShorter, OnStepFaulted, at_after, step_fits};
-    ghost use Rattle.row_feed.specs.Feed.{hand_of, key_of, window_of, hours_of, has_ended, at_of, room_of, is_open, Leaves, Keeps, IsOfKind};
+    ghost use Rattle.row_feed.specs.Steps.{StepGives, OnStepFaulted};
+    ghost use Rattle.row_feed.specs.Feed.{hand_of, key_of, window_of, hours_of, has_ended, at_of, room_of, is_open, Leaves, Keeps, Goes, IsOfKind};
     ghost use Rattle.row_feed.specs.Reading.{StepReads, Reads};
 
     /// The feed of a key over a window and the hours of the exchange. It takes all the memory that it needs. `Refused`: there
@@ -96,15 +96,8 @@ impl<H: Hand> RowFeed<H> {
     fn step(&mut self) -> Option<Item>
         ensures gives { (list : List Item) → Leaves H.files H.rest H.is_open self.old list
             → StepGives (Leaves H.files H.rest H.is_open self.new) list result }
-        ensures fits { step_fits (at_of self.old) result ≡ true }
-        ensures at { at_of self.new ≡ at_after (at_of self.old) result }
-        ensures within { StepWithin (last_moment (window_of self.old)) result }
-        ensures kind { StepIsOfKind (key_of self.old).kind result }
-        ensures fewer { StepIsShorter (room_of self.old) (room_of self.new) result }
+        ensures goes { Goes H.files H.faults self.old self.new result }
         ensures rose { OnStepFaulted result (Rose (H.faults (hand_of self.old)) (H.faults (hand_of self.new))) }
-        ensures grows { H.faults (hand_of self.old) ≤ H.faults (hand_of self.new) }
-        ensures files { H.files (hand_of self.new) ≡ H.files (hand_of self.old) }
-        ensures kept { Keeps self.old self.new }
         ensures reads { StepReads H.files H.rest H.is_open self.old self.new result }
     {
         if self.reader.is_open() {
@@ -119,15 +112,8 @@ impl<H: Hand> RowFeed<H> {
         requires { is_open self.old ≡ true }
         ensures gives { (list : List Item) → Leaves H.files H.rest H.is_open self.old list
             → StepGives (Leaves H.files H.rest H.is_open self.new) list result }
-        ensures fits { step_fits (at_of self.old) result ≡ true }
-        ensures at { at_of self.new ≡ at_after (at_of self.old) result }
-        ensures within { StepWithin (last_moment (window_of self.old)) result }
-        ensures kind { StepIsOfKind (key_of self.old).kind result }
-        ensures fewer { StepIsShorter (room_of self.old) (room_of self.new) result }
+        ensures goes { Goes H.files H.faults self.old self.new result }
         ensures rose { OnStepFaulted result (Rose (H.faults (hand_of self.old)) (H.faults (hand_of self.new))) }
-        ensures grows { H.faults (hand_of self.old) ≤ H.faults (hand_of self.new) }
-        ensures files { H.files (hand_of self.new) ≡ H.files (hand_of self.old) }
-        ensures kept { Keeps self.old self.new }
         ensures reads { StepReads H.files H.rest H.is_open self.old self.new result }
     {
         match self.reader.next() {
@@ -146,15 +132,8 @@ impl<H: Hand> RowFeed<H> {
         requires { is_open self.old ≡ false }
         ensures gives { (list : List Item) → Leaves H.files H.rest H.is_open self.old list
             → StepGives (Leaves H.files H.rest H.is_open self.new) list result }
-        ensures fits { step_fits (at_of self.old) result ≡ true }
-        ensures at { at_of self.new ≡ at_after (at_of self.old) result }
-        ensures within { StepWithin (last_moment (window_of self.old)) result }
-        ensures kind { StepIsOfKind (key_of self.old).kind result }
-        ensures fewer { StepIsShorter (room_of self.old) (room_of self.new) result }
+        ensures goes { Goes H.files H.faults self.old self.new result }
         ensures rose { OnStepFaulted result (Rose (H.faults (hand_of self.old)) (H.faults (hand_of self.new))) }
-        ensures grows { H.faults (hand_of self.old) ≤ H.faults (hand_of self.new) }
-        ensures files { H.files (hand_of self.new) ≡ H.files (hand_of self.old) }
-        ensures kept { Keeps self.old self.new }
         ensures reads { StepReads H.files H.rest H.is_open self.old self.new result }
     {
         match self.course.next_file() {

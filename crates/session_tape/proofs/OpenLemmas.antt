@@ -19,7 +19,7 @@ use Rattle.lean_items.specs.declared.item.Item.{Item}
 use Rattle.lean_items.specs.declared.item.Item.TheVariants.{Bar, Coarse, Bad, Faulted, End}
 use Rattle.lean_items.specs.Fits.{fits, is_bar_in_range, Rises}
 use Rattle.lean_items.specs.Given.{end_of, is_last, IsRow}
-use Rattle.lean_items.specs.Taken.{Feeds, Taken, Follows, AllFollow, added_to, more}
+use Rattle.lean_items.specs.Taken.{Start, Feeds, Taken, Follows, AllFollow, added_to, more}
 use Rattle.exchange_hours.specs.Entries.{Entries}
 use Rattle.frontier_sync.specs.Heads.{arrival, put, ends_past, EndsFrom, AreOpen}
 use Rattle.frontier_sync.specs.Slices.{taken_one, TakesOfOne}
@@ -153,7 +153,7 @@ module _ (resolution : Resolution) (window : Window) where
   abbrev first : ℕ
   first = first_moment window
 
-  pub record Opened (stands : ℕ → Feeds → Type 0) (before : ℕ) (heads : List Arrival) (symbols : List (List ℕ)) : Type 0 where
+  pub record Opened (stands : Start → Feeds → Type 0) (before : Start) (heads : List Arrival) (symbols : List (List ℕ)) : Type 0 where
     pub feeds : Feeds
     pub stands_now : stands before feeds
     pub taken : All (IsTaken feeds) heads
@@ -162,9 +162,9 @@ module _ (resolution : Resolution) (window : Window) where
         → HeadsStand (pos (first + 1)) feeds 0 heads (keys_of resolution window symbols)
 
   -- one symbol more
-  pub opened_more : (is_window : IsWindow window) (old added new : ℕ → Feeds → Type 0) (before : ℕ) (heads : List Arrival) (symbols : List (List ℕ)) (symbol : List ℕ) (feed : FeedNo)
+  pub opened_more : (is_window : IsWindow window) (old added new : Start → Feeds → Type 0) (before : Start) (heads : List Arrival) (symbols : List (List ℕ)) (symbol : List ℕ) (feed : FeedNo)
       (passed : List Item) (item : Item) → Opened old before heads symbols
-      → ((b : ℕ) (feeds : Feeds) → old b feeds → added b (added_to feeds (session_key resolution window symbol) (Ok feed)))
+      → ((b : Start) (feeds : Feeds) → old b feeds → added b (added_to feeds (session_key resolution window symbol) (Ok feed)))
       → TakesOfOne added new feed.0 (passed ++ item ∷ []) → All (λ x. ends_past (pos first) x ≡ false) passed → ends_past (pos first) item ≡ true
       → feed.0 ≡ length symbols → AreNumbered (length symbols) heads → Opened new before (heads ++ arrival feed item ∷ []) (symbols ++ symbol ∷ [])
   opened_more is_window old added new before heads symbols symbol feed passed item o adds takes none past number numbered =

@@ -18,7 +18,7 @@ use Rattle.lean_items.specs.declared.item.Item.{Item}
 use Rattle.lean_items.specs.declared.item.Item.TheVariants.{Bar, Coarse, Bad, Faulted as FailedRead, End}
 use Rattle.lean_items.specs.Fits.{fits}
 use Rattle.lean_items.specs.Given.{end_of}
-use Rattle.lean_items.specs.Taken.{Feeds, AllFollow}
+use Rattle.lean_items.specs.Taken.{Start, Feeds, AllFollow}
 use Rattle.exchange_hours.specs.Entries.{Entries}
 use Rattle.clock_feeds.specs.Slices.{Source, slice, refused}
 use Rattle.clock_feeds.proofs.FeedLemmas.{last_small}
@@ -116,7 +116,7 @@ module _ (resolution : Resolution) (window : Window) (symbols : List (List ℕ))
     pub printed : IsPrinted told0 told page0 page (session_text bars)
 
   -- what was taken since the walk began at some feeds and heads
-  pub record Known (stands : ℕ → Feeds → Type 0) (before : ℕ) (feeds : Feeds) (heads0 heads : List Arrival) (at rows : ℕ) (told0 told : Option (List ℕ)) (page0 page : List ℕ) : Type 0 where
+  pub record Known (stands : Start → Feeds → Type 0) (before : Start) (feeds : Feeds) (heads0 heads : List Arrival) (at rows : ℕ) (told0 told : Option (List ℕ)) (page0 page : List ℕ) : Type 0 where
     pub now : Feeds
     pub stands_now : stands before now
     pub taken : All (IsTaken now) heads
@@ -125,7 +125,7 @@ module _ (resolution : Resolution) (window : Window) (symbols : List (List ℕ))
         → HeadsStand (pos (first + 1)) feeds 0 heads0 keys → Comes lists f hours now heads at rows told0 told page0 page
 
   -- how a walk ends
-  abbrev pub Ends : (ℕ → Feeds → Type 0) → ℕ → Feeds → List Arrival → Option (List ℕ) → Option (List ℕ) → List ℕ → List ℕ → Result Ending Stop → Type 0
+  abbrev pub Ends : (Start → Feeds → Type 0) → Start → Feeds → List Arrival → Option (List ℕ) → Option (List ℕ) → List ℕ → List ℕ → Result Ending Stop → Type 0
   Ends stands before feeds heads0 told0 told page0 page result =
       (now : Feeds) × stands before now × IfFaulted result (HasFaulted now)
       × ((lists : FeedKey → List Item) → AllFollow lists now → AllFollow lists feeds)
@@ -133,7 +133,7 @@ module _ (resolution : Resolution) (window : Window) (symbols : List (List ℕ))
       → HeadsStand (pos (first + 1)) feeds 0 heads0 keys
       → HasWalked (session_sources f hours resolution window symbols) window told0 told page0 page result)
 
-  pub known_start : (is_window : IsWindow window) (stands : ℕ → Feeds → Type 0) (before : ℕ) (feeds : Feeds) (heads : List Arrival) (told : Option (List ℕ)) (page : List ℕ) → first ≤ last
+  pub known_start : (is_window : IsWindow window) (stands : Start → Feeds → Type 0) (before : Start) (feeds : Feeds) (heads : List Arrival) (told : Option (List ℕ)) (page : List ℕ) → first ≤ last
       → stands before feeds → All (IsTaken feeds) heads → Known stands before feeds heads heads first 0 told told page page
   known_start is_window stands before feeds heads told page within stand taken = record {
     now = feeds;
@@ -148,7 +148,7 @@ module _ (resolution : Resolution) (window : Window) (symbols : List (List ℕ))
     };
   }
 
-  module _ (is_window : IsWindow window) (stands : ℕ → Feeds → Type 0) (before : ℕ) (feeds : Feeds) (heads0 heads : List Arrival) (at rows : ℕ)
+  module _ (is_window : IsWindow window) (stands : Start → Feeds → Type 0) (before : Start) (feeds : Feeds) (heads0 heads : List Arrival) (at rows : ℕ)
       (told0 told : Option (List ℕ)) (page0 page : List ℕ) (known : Known stands before feeds heads0 heads at rows told0 told page0 page) where
     abbrev none_stops : Type 0
     none_stops = find (λ (a : Arrival). stops a.item) heads ≡ None
@@ -196,7 +196,7 @@ module _ (resolution : Resolution) (window : Window) (symbols : List (List ℕ))
           (so_far_next sources window at rows next more c.bars c.so_far (calm_now c none follow late) low high (quiet c next none follow from) size (omega (arith, size, short, few)))
 
     -- the next minute was printed
-    pub known_next : (after_stands : ℕ → Feeds → Type 0) (next more rows1 : ℕ) (taken : ℕ → List Item) (after : List Arrival) (told1 : Option (List ℕ)) (page1 : List ℕ) → none_stops
+    pub known_next : (after_stands : Start → Feeds → Type 0) (next more rows1 : ℕ) (taken : ℕ → List Item) (after : List Arrival) (told1 : Option (List ℕ)) (page1 : List ℕ) → none_stops
         → AllFrom (at + 1) heads → at < next → next ≤ last → AllFrom next heads → length symbols ≤ 64 → IsSliced (pos next) taken heads after → MovesOn stands after_stands taken
         → more ≡ length (shown symbols (slice_of (pos next) taken heads))
         → IsPrinted told told1 page page1 (session_text (shown symbols (slice_of (pos next) taken heads)))
@@ -299,7 +299,7 @@ module _ (resolution : Resolution) (window : Window) (symbols : List (List ℕ))
     )
 
     -- there was no memory for the slice
-    pub ends_unsliced : (after_stands : ℕ → Feeds → Type 0) (taken : ℕ → List Item) (stop : Stop) → MovesOn stands after_stands taken
+    pub ends_unsliced : (after_stands : Start → Feeds → Type 0) (taken : ℕ → List Item) (stop : Stop) → MovesOn stands after_stands taken
         → Ends after_stands before feeds heads0 told0 told page0 page (Err stop)
     ends_unsliced after_stands taken stop moves = (
       taken_all known.now taken,
@@ -312,7 +312,7 @@ module _ (resolution : Resolution) (window : Window) (symbols : List (List ℕ))
     )
 
     -- a line was not printed
-    pub ends_unprinted : (after_stands : ℕ → Feeds → Type 0) (next : ℕ) (taken : ℕ → List Item) (after : List Arrival) (told1 : Option (List ℕ)) (page1 : List ℕ) (stop : Stop) → none_stops
+    pub ends_unprinted : (after_stands : Start → Feeds → Type 0) (next : ℕ) (taken : ℕ → List Item) (after : List Arrival) (told1 : Option (List ℕ)) (page1 : List ℕ) (stop : Stop) → none_stops
         → AllFrom (at + 1) heads → at < next → next ≤ last → AllFrom next heads → length symbols ≤ 64 → IsSliced (pos next) taken heads after → MovesOn stands after_stands taken
         → IsFront told told1 (page ++ session_text (shown symbols (slice_of (pos next) taken heads)))
         → Ends after_stands before feeds heads0 told0 told1 page0 page1 (Err stop)

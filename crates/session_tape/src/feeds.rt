@@ -7,7 +7,7 @@ ghost use Rattle.lean_io.specs.Told.{Files};
 ghost use Rattle.lean_items.specs.declared.feed_key.FeedKey.{FeedKey as Key};
 ghost use Rattle.lean_items.specs.declared.item.Item.{Item as GivenItem};
 ghost use Rattle.lean_items.specs.Given.{end_of};
-ghost use Rattle.lean_items.specs.Taken.{Feeds, AllFollow, no_feeds};
+ghost use Rattle.lean_items.specs.Taken.{Start, Feeds, AllFollow, no_feeds};
 ghost use Rattle.exchange_hours.specs.Entries.{Entries};
 ghost use Rattle.frontier_sync.specs.Heads.{AreOpen, EndsFrom};
 ghost use Rattle.frontier_sync.specs.Stands.{IsTaken, HeadsStand};
@@ -35,7 +35,7 @@ pub(crate) fn open_feeds<P: Pool>(
     ensures opened { OnOk result (AreOpen (P.is_open pool.new) heads.new) }
     ensures numbered { OnOk result (All (λ a. a.feed.0 < length symbols.now) heads.new) }
     ensures later { OnOk result (All (λ a. EndsFrom (pos (first_moment window + 1)) (end_of a.item)) heads.new) }
-    ensures stands { (before : ℕ) → P.stands pool.old before no_feeds
+    ensures stands { (before : Start) → P.stands pool.old before no_feeds
         → (feeds : Feeds) × P.stands pool.new before feeds
         × OnOk result (All (IsTaken feeds) heads.new
         × ((lists : Key → List GivenItem) (f : Files) (hours : Entries) → AreFeeds lists f hours window

@@ -5,7 +5,7 @@ ghost use Rattle.lean_fixed.specs.Ranges.{IsWindow};
 ghost use Rattle.lean_io.specs.Told.{Files, Rose};
 ghost use Rattle.lean_items.specs.declared.feed_key.FeedKey.{FeedKey as Key};
 ghost use Rattle.lean_items.specs.declared.item.Item.{Item as GivenItem};
-ghost use Rattle.lean_items.specs.Taken.{Feeds, AllFollow, no_feeds};
+ghost use Rattle.lean_items.specs.Taken.{Start, Feeds, AllFollow, no_feeds};
 ghost use Rattle.exchange_hours.specs.Entries.{Entries};
 ghost use Rattle.clock_feeds.specs.Slices.{Source as FeedSource};
 ghost use Rattle.report_pages.specs.Printed.{HasCause, HasRoom};
@@ -41,16 +41,16 @@ pub fn print_session<P: Pool, S: Sink>(
     requires window { IsWindow window }
     requires order { first_moment window ≤ last_moment window }
     requires few { length symbols.now ≤ 64 }
-    ensures told { IfOk result (λ ended. (before : ℕ) (lists : Key → List GivenItem) (f : Files) (hours : Entries)
+    ensures told { IfOk result (λ ended. (before : Start) (lists : Key → List GivenItem) (f : Files) (hours : Entries)
         → P.stands pool.old before no_feeds → P.lists pool.old ≡ Some lists → AreFeeds lists f hours window
         → IsReport resolution window (session_sources f hours resolution window symbols.now)
         (S.told out.old) (S.told out.new) ended) }
-    ensures front { OnErr result ((before : ℕ) (lists : Key → List GivenItem) (f : Files) (hours : Entries)
+    ensures front { OnErr result ((before : Start) (lists : Key → List GivenItem) (f : Files) (hours : Entries)
         → P.stands pool.old before no_feeds → P.lists pool.old ≡ Some lists → AreFeeds lists f hours window
         → IsReportFront resolution window (session_sources f hours resolution window symbols.now)
         (S.told out.old) (S.told out.new)) }
-    ensures fault { IfOk result (λ ended. (before : ℕ) → P.stands pool.old before no_feeds
-        → ended ≡ Ended.ReadFault → Rose before (P.faults pool.new)) }
+    ensures fault { IfOk result (λ ended. (before : Start) → P.stands pool.old before no_feeds
+        → ended ≡ Ended.ReadFault → Rose before.faults (P.faults pool.new)) }
     ensures cause { IfErr result (HasCause (S.faults out.old) (S.faults out.new)) }
     ensures sink_grows { S.faults out.old ≤ S.faults out.new }
     ensures files { P.files pool.new ≡ P.files pool.old }
@@ -81,7 +81,7 @@ fn walk_feeds<P: Pool, S: Sink>(
     requires order { first_moment window ≤ last_moment window }
     requires few { length symbols.now ≤ 64 }
     requires room { HasRoom page.old.items }
-    ensures stands { (before : ℕ) → P.stands pool.old before no_feeds
+    ensures stands { (before : Start) → P.stands pool.old before no_feeds
         → (now : Feeds) × P.stands pool.new before now
         × IfFaulted result (HasFaulted now)
         × ((lists : Key → List GivenItem) (f : Files) (hours : Entries) → AreFeeds lists f hours window

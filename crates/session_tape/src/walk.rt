@@ -7,7 +7,7 @@ ghost use Rattle.lean_io.specs.Told.{Files};
 ghost use Rattle.lean_items.specs.declared.feed_key.FeedKey.{FeedKey as Key};
 ghost use Rattle.lean_items.specs.declared.item.Item.{Item as GivenItem};
 ghost use Rattle.lean_items.specs.Given.{end_of};
-ghost use Rattle.lean_items.specs.Taken.{Feeds, AllFollow};
+ghost use Rattle.lean_items.specs.Taken.{Start, Feeds, AllFollow};
 ghost use Rattle.exchange_hours.specs.Entries.{Entries};
 ghost use Rattle.frontier_sync.specs.Heads.{AreOpen, EndsFrom, stops};
 ghost use Rattle.frontier_sync.specs.Stands.{IsTaken, HeadsStand};
@@ -44,7 +44,7 @@ pub(crate) fn walk<P: Pool, S: Sink>(
     requires order { first_moment window ≤ last_moment window }
     requires few { length symbols.now ≤ 64 }
     requires room { HasRoom page.old.items }
-    ensures stands { (before : ℕ) (feeds : Feeds) → P.stands pool.old before feeds
+    ensures stands { (before : Start) (feeds : Feeds) → P.stands pool.old before feeds
         → All (IsTaken feeds) heads.old
         → (now : Feeds) × P.stands pool.new before now
         × IfFaulted result (HasFaulted now)

@@ -3,6 +3,7 @@ use Rattle.std.proofs.Common.{◌∙◌, sym, ap, subst, refl}
 use Rattle.std.proofs.lemmas.Result.{IfOk-weaker}
 use Rattle.std.specs.Prelude.{option_map}
 use Rattle.std.specs.Arc.{arc_value}
+use Rattle.lean_items.specs.Taken.{Start}
 use Rattle.exchange_hours.specs.Sessions.{LieInDays}
 use Rattle.feed_pool.specs.Lists.{list_of}
 use Rattle.report_pages.proofs.PrintedLemmas.{on_err-map}
@@ -19,7 +20,7 @@ returns-in-Ok-clause-reported g c f told =
     let hours = arc_value c.args.hours in
     let window = c.args.window in
     let resolution = c.args.resolution in
-    let before = g.F.Folder.faults c.args.folder.now in
+    let before : Start = record { faults = g.F.Folder.faults c.args.folder.now; hands = g.F.Folder.hands c.args.folder.now } in
     let told0 = g.S.Sink.told c.args.out.now in
     let told1 = g.S.Sink.told c.print_session-ended.new.out in
     let sources = session_sources f hours resolution window c.args.symbols.now in

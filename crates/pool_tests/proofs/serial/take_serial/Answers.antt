@@ -12,6 +12,6 @@ returns-clause-follow g c =
     let hours = arc_value c.args.hours in
     let window = c.args.window in
     IfOk-weaker c.take_all.result _ _
-    (λ items had f told. had (g.F.Folder.faults c.args.folder.now) c.in_ok-pool.ensures.stands (list_of f hours window)
+    (λ items had f told. had (record { faults = g.F.Folder.faults c.args.folder.now; hands = g.F.Folder.hands c.args.folder.now }) c.in_ok-pool.ensures.stands (list_of f hours window)
     (c.in_ok-pool.ensures.lists ∙ ap (option_map (λ m. list_of m hours window)) told))
     c.take_all.ensures.follow

@@ -2,7 +2,7 @@
 use Rattle.std.proofs.Common.{◌∙◌}
 use Rattle.lean_items.specs.Taken.{Taken}
 use Rattle.pool_tests.specs.Each.{only}
-use Rattle.pool_tests.proofs.EachLemmas.{only-here}
+use Rattle.pool_tests.proofs.OnlyLemmas.{only-here}
 use Rattle.pool_tests.proofs.taking.take_all.Goals as goal
 
 pub returns-clause-follow : goal.returns-clause-follow
@@ -16,3 +16,8 @@ returns-clause-rose g c before stands =
     let taken : Taken = record { key = c.args.key; items = c.items.items.items } in
     c.finish.ensures.rose before (only c.in_ok-feed.feed.0 taken) (c.items.invariant.taken before stands)
     c.in_ok-feed.feed.0 taken (only-here c.in_ok-feed.feed.0 taken)
+
+pub returns-clause-hands : goal.returns-clause-hands
+returns-clause-hands g c before stands =
+    let taken : Taken = record { key = c.args.key; items = c.items.items.items } in
+    c.finish.ensures.hands before (only c.in_ok-feed.feed.0 taken) (c.items.invariant.taken before stands)

@@ -1,11 +1,11 @@
 use Rattle.std.proofs.Common.{◌≡◌, ℕ, ◌+◌, ◌≤◌, cond}
-use Rattle.lean_items.specs.Taken.{no_feeds}
+use Rattle.lean_items.specs.Taken.{Start, no_feeds}
 use Rattle.pool_tests.specs.Each.{only}
 use Rattle.pool_tests.proofs.taking.take_all.Given as goal
 
 abbrev pub invariant-items : goal.invariant-items
 invariant-items g l = record {
-  taken : (before : ℕ) → g.P.Pool.stands l.fn.pool before no_feeds
+  taken : (before : Start) → g.P.Pool.stands l.fn.pool before no_feeds
       → g.P.Pool.stands l.pool before (only l.feed.0 (record { key = l.fn.key; items = l.items.items }));
   opened : g.P.Pool.is_open l.pool l.feed.0 ≡ l.open;
   lists : g.P.Pool.lists l.pool ≡ g.P.Pool.lists l.fn.pool;

@@ -1,7 +1,7 @@
 -- The feeds of the first symbols were opened.
-use Rattle.std.proofs.Common.{◌≡◌, ℕ, ◌+◌, ◌≤◌, take}
+use Rattle.std.proofs.Common.{◌≡◌, ◌+◌, ◌≤◌, take}
 use Rattle.lean_fixed.specs.Moments.{first_moment}
-use Rattle.lean_items.specs.Taken.{no_feeds}
+use Rattle.lean_items.specs.Taken.{Start, no_feeds}
 use Rattle.frontier_sync.specs.Heads.{AreOpen}
 use Rattle.session_tape.proofs.OpenLemmas.{Opened}
 use Rattle.session_tape.proofs.WalkLemmas.{AreNumbered, AllFrom}
@@ -16,7 +16,7 @@ invariant-symbols g l =
       numbered : AreNumbered l.place l.heads;
       later : AllFrom (first_moment l.window + 1) l.heads;
       added : g.P.Pool.added now ≡ l.place;
-      known : (before : ℕ) → g.P.Pool.stands first before no_feeds → Opened l.resolution l.window (g.P.Pool.stands now) before l.heads (take l.place l.symbols);
+      known : (before : Start) → g.P.Pool.stands first before no_feeds → Opened l.resolution l.window (g.P.Pool.stands now) before l.heads (take l.place l.symbols);
       files : g.P.Pool.files now ≡ g.P.Pool.files first;
       lists : g.P.Pool.lists now ≡ g.P.Pool.lists first;
       grows : g.P.Pool.faults first ≤ g.P.Pool.faults now;

@@ -1,8 +1,8 @@
 -- How far the walk has come.
-use Rattle.std.proofs.Common.{◌≡◌, ℕ, ◌+◌, ◌-◌, ◌≤◌, length}
+use Rattle.std.proofs.Common.{◌≡◌, ◌+◌, ◌-◌, ◌≤◌, length}
 use Rattle.std.specs.List.{All}
 use Rattle.lean_fixed.specs.Moments.{first_moment, last_moment}
-use Rattle.lean_items.specs.Taken.{Feeds}
+use Rattle.lean_items.specs.Taken.{Start, Feeds}
 use Rattle.frontier_sync.specs.Heads.{AreOpen}
 use Rattle.frontier_sync.specs.Stands.{IsTaken}
 use Rattle.report_pages.specs.Printed.{HasRoom}
@@ -19,7 +19,7 @@ invariant-minutes g l =
       later : AllFrom (l.at + 1) l.heads;
       low : first_moment l.window ≤ l.at;
       high : l.at ≤ last_moment l.window;
-      known : (before : ℕ) (feeds : Feeds) → g.P.Pool.stands first before feeds → All (IsTaken feeds) l.fn.heads
+      known : (before : Start) (feeds : Feeds) → g.P.Pool.stands first before feeds → All (IsTaken feeds) l.fn.heads
           → Known l.fn.resolution l.window l.symbols (g.P.Pool.stands now) before feeds l.fn.heads l.heads l.at l.rows
           (g.S.Sink.told l.fn.out) (g.S.Sink.told l.out) l.fn.page.items l.page.items;
       room : HasRoom l.page.items;

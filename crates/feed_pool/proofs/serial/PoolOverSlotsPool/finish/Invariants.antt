@@ -1,18 +1,18 @@
-use Rattle.std.proofs.Common.{◌≡◌, ℕ, ◌≤◌}
+use Rattle.std.proofs.Common.{◌≡◌, ◌≤◌}
 use Rattle.std.specs.Prelude.{vec_len}
 use Rattle.std.specs.Arc.{arc_value}
-use Rattle.lean_items.specs.Taken.{Feeds}
+use Rattle.lean_items.specs.Taken.{Start, Feeds}
 use Rattle.feed_pool.specs.Lists.{lists_of}
-use Rattle.feed_pool.specs.Running.{Stands}
+use Rattle.feed_pool.specs.Running.{Runs}
 use Rattle.feed_pool.proofs.serial.PoolOverSlotsPool.finish.Given as goal
 
 abbrev pub invariant-feeds : goal.invariant-feeds
 invariant-feeds g l = record {
-  stands : (before : ℕ) (feeds : Feeds)
-      → Stands g.G.Feed.leaves g.G.Feed.has_ended g.G.Feed.faults (lists_of (g.F.Folder.files l.fn.self.folder.now) (arc_value l.fn.self.slots.hours) l.fn.self.slots.window)
-      before (g.F.Folder.faults l.fn.self.folder.now) l.fn.self.slots.feeds.items feeds
-      → Stands g.G.Feed.leaves g.G.Feed.has_ended g.G.Feed.faults (lists_of (g.F.Folder.files l.fn.self.folder.now) (arc_value l.fn.self.slots.hours) l.fn.self.slots.window)
-      before (g.F.Folder.faults l.self.folder.now) l.self.slots.feeds.items feeds;
+  stands : (start : Start) (feeds : Feeds)
+      → Runs g.G.Feed.leaves g.G.Feed.has_ended g.G.Feed.faults (lists_of (g.F.Folder.files l.fn.self.folder.now) (arc_value l.fn.self.slots.hours) l.fn.self.slots.window)
+      start (record { faults = g.F.Folder.faults l.fn.self.folder.now; hands = g.F.Folder.hands l.fn.self.folder.now }) l.fn.self.slots.feeds.items feeds
+      → Runs g.G.Feed.leaves g.G.Feed.has_ended g.G.Feed.faults (lists_of (g.F.Folder.files l.fn.self.folder.now) (arc_value l.fn.self.slots.hours) l.fn.self.slots.window)
+      start (record { faults = g.F.Folder.faults l.self.folder.now; hands = g.F.Folder.hands l.self.folder.now }) l.self.slots.feeds.items feeds;
   files : g.F.Folder.files l.self.folder.now ≡ g.F.Folder.files l.fn.self.folder.now;
   hours : arc_value l.self.slots.hours ≡ arc_value l.fn.self.slots.hours;
   window : l.self.slots.window ≡ l.fn.self.slots.window;

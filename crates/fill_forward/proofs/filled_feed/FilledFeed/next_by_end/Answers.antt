@@ -1,4 +1,4 @@
-use Rattle.std.proofs.Common.{arith}
+use Rattle.std.proofs.Common.{arith, rules}
 use Rattle.std.proofs.lemmas.Int.{ints}
 use Rattle.row_feed.specs.Feed.{key_of, window_of, hours_of, Leaves}
 use Rattle.fill_forward.proofs.FeedLemmas.{held_over, behind_gives, end_gives}
@@ -19,9 +19,14 @@ returns-in-Some-clause-gives g c =
     let rows = c.args.self.now.rows in
     λ list l. behind_gives (Leaves g.H.Hand.files g.H.Hand.rest g.H.Hand.is_open rows) (hours_of rows) (window_of rows) (key_of rows) c.args.resolution c.requires.grid _ _ _ _ _ list c.requires.over (omega (arith, ints, c.args.self.now.end)) c.in-Some.ensures.again l
 
-pub returns-in-Some-clause-fewer : goal.returns-in-Some-clause-fewer
-returns-in-Some-clause-fewer g c =
-    fewer_left _ _ _ c.in-Some.ensures.between.0 (omega (arith, ints, c.in-Some.ensures.between))
+pub returns-in-Some-clause-goes : goal.returns-in-Some-clause-goes
+returns-in-Some-clause-goes g c = record {
+  fewer = fewer_left _ _ _ c.in-Some.ensures.between.0 (omega (arith, ints, c.in-Some.ensures.between));
+  ended = search rules;
+  grows = search rules;
+  rose = tt;
+  kept = search rules;
+}
 
 pub returns-in-None-clause-gives : goal.returns-in-None-clause-gives
 returns-in-None-clause-gives g c =

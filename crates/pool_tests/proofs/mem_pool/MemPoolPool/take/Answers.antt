@@ -3,14 +3,15 @@ use Rattle.std.proofs.Common.{◌≡◌, ◌<◌, get_or, length, Some, None, sy
 use Rattle.std.proofs.lemmas.List.{get_or_read}
 use Rattle.pool_tests.specs.Places.{Standing, place_behind}
 use Rattle.pool_tests.specs.Scripts.{items_of}
-use Rattle.pool_tests.proofs.EachLemmas.{each-taken}
+use Rattle.feed_pool.proofs.EachLemmas.{each-taken}
 use Rattle.pool_tests.proofs.StandLemmas.{stand-later, stand-taken, is-within}
 use Rattle.pool_tests.proofs.mem_pool.MemPoolPool.take.Goals as goal
 
 pub returns-clause-stands : goal.returns-clause-stands
-returns-clause-stands c before feeds stands =
+returns-clause-stands c start feeds stands =
     let pool = c.args.self.now in
     let items = items_of pool.script in
+    let before = start.faults in
     let now = pool.faults.now in
     let later = c.count_fault.new.faults in
     let item = c.at-item.result in
@@ -25,4 +26,5 @@ returns-clause-stands c before feeds stands =
           (λ taken h. stand-taken items before now later c.in-Some.at item taken c.at-item.ensures.item stands.since c.count_fault.ensures.grows c.count_fault.ensures.rose
           (subst (λ x. Standing items before now x taken) at h))
           stands.each);
+      no_hands = stands.no_hands;
     }
