@@ -1,16 +1,14 @@
 -- What is known of the heads that were gone through.
-use Rattle.std.proofs.Common.{◌≡◌, ℕ, ◌+◌, ◌<◌, false, List, [], ◌∷◌, ◌++◌, length, take, Option, Some, None, option_map, refl, sym, ap, ◌∙◌, subst, cond}
+use Rattle.std.proofs.Common.{◌≡◌, false, List, [], ◌∷◌, ◌++◌, Option, None, option_map, refl, sym, ap, ◌∙◌}
 use Rattle.std.specs.Prelude.{find}
 use Rattle.std.specs.List.{All}
-use Rattle.std.proofs.Math.ListN.{set}
 use Rattle.std.proofs.lemmas.List.Elements.{All-head, All-tail, All-push}
 use Rattle.lean_fixed.specs.declared.time.Moment.{Moment}
 use Rattle.lean_items.specs.declared.arrival.Arrival.{Arrival}
 use Rattle.lean_items.specs.declared.item.Item.{Item}
 use Rattle.lean_items.specs.Given.{end_of}
-use Rattle.frontier_sync.specs.declared.seen.Seen.{Seen}
-use Rattle.frontier_sync.specs.declared.seen.Seen.TheVariants.{Nothing, Calm}
-use Rattle.frontier_sync.specs.Heads.{stops, IsFrontier, earlier}
+use Rattle.frontier_sync.specs.declared.seen.Seen.TheVariants.{Calm}
+use Rattle.frontier_sync.specs.Heads.{stops, earlier}
 use Rattle.frontier_sync.specs.Seen.{IsSeen}
 use Rattle.frontier_sync.proofs.FrontierLemmas.{frontier-push}
 

@@ -1,12 +1,12 @@
 -- How the parts of a line that are written one behind the other add up.
-use Rattle.std.proofs.Common.{◌≡◌, ℕ, ◌+◌, ◌≤◌, List, [], ◌∷◌, ◌++◌, refl, sym, ap, ◌∙◌, subst, arith, length, length-append, take, drop, append_assoc}
+use Rattle.std.proofs.Common.{◌≡◌, ℕ, List, [], ◌∷◌, ◌++◌, refl, sym, ap, ◌∙◌, subst, arith, length, length-append, take, drop, append_assoc}
 use Rattle.std.specs.Prelude.{decimal, unsigned_abs, codes}
 use Rattle.lean_fixed.specs.Printed.{money_text}
 use Rattle.lean_fixed.specs.Written.{IsWritten}
 use Rattle.lean_items.specs.declared.bad.Bad.{Bad}
 use Rattle.lean_items.specs.Reasons.{reason_text}
 use Rattle.report_pages.specs.declared.trades.Trades.{Trades}
-use Rattle.report_pages.specs.Lines.{part, row_line, end_line, data_line_of}
+use Rattle.report_pages.specs.Lines.{part, row_line, data_line_of}
 use Rattle.report_pages.specs.Written.{IsAdded}
 
 pub added-more : (a b : List ℕ) (p q r : ℕ) (old mid new : List ℕ) → IsAdded a p old mid q → IsAdded b q mid new r → IsAdded (a ++ b) p old new r

@@ -1,5 +1,5 @@
 //! The kinds of values. Each answers `None` exactly where a value is of another kind or out of its range.
-ghost use Rattle.std.specs.Prelude.{◌≡◌, ◌≤◌, ◌^◌, bytes_eq, option_map, IfSome};
+ghost use Rattle.std.specs.Prelude.{◌≡◌, ◌≤◌, ◌^◌, bytes_eq, option_map, IfSome, unsigned_abs};
 ghost use Rattle.std.specs.List.{list_any};
 ghost use Rattle.toml.specs.Data.{as_str};
 ghost use Rattle.toml.specs.View.{view};
@@ -109,8 +109,14 @@ fn day_number(text: &str) -> Option<u32>
 {
     match Day::read(text.as_bytes()) {
         None => None,
-        Some(day) => Some(day.0.unsigned_abs()),
+        Some(day) => Some(number_of(day)),
     }
+}
+
+fn number_of(day: Day) -> u32
+    ensures { result ≡ unsigned_abs day.0 }
+{
+    day.0.unsigned_abs()
 }
 
 /// A text that is a resolution.

@@ -1,4 +1,4 @@
-use Rattle.std.proofs.Common.{◌≡◌, true, false, [], ◌∷◌, ◌++◌, map, refl, sym, ap, ◌∙◌, arith, append-nil}
+use Rattle.std.proofs.Common.{◌≡◌, true, false, [], ◌∷◌, ◌++◌, map, refl, sym, ap, ◌∙◌, append-nil}
 use Rattle.frontier_sync.specs.Heads.{arrival}
 use Rattle.frontier_sync.specs.Slices.{ends_at}
 use Rattle.frontier_sync.proofs.TakenLemmas.{stays-none, stays-more, takes-none, takes-more}

@@ -1,5 +1,5 @@
 -- What was taken of the feed, and what was given.
-use Rattle.std.proofs.Common.{◌≡◌, ◌≢◌, ℕ, ◌+◌, ◌≤◌, true, cond, List, ◌++◌, map}
+use Rattle.std.proofs.Common.{◌≡◌, ◌≢◌, ℕ, ◌+◌, true, cond, List, ◌++◌, map}
 use Rattle.lean_items.specs.declared.item.Item.{Item}
 use Rattle.lean_items.specs.Given.{is_last, IsRow}
 use Rattle.frontier_sync.specs.Heads.{arrival}

@@ -1,4 +1,4 @@
-use Rattle.std.proofs.Common.{◌≡◌, ◌<◌, ◌≤◌, false, [], length, take, get_or, None, subst, refl, sym, ap, ◌∙◌, arith, append-nil}
+use Rattle.std.proofs.Common.{◌≡◌, ◌<◌, false, [], length, take, get_or, None, subst, refl, sym, ap, ◌∙◌, arith, append-nil}
 use Rattle.std.proofs.lemmas.List.{length-set, take_all, take_more_set}
 use Rattle.std.proofs.lemmas.List.Elements.{All-nil}
 use Rattle.lean_items.specs.declared.arrival.Arrival.{Arrival}

@@ -1,5 +1,5 @@
 -- The heads before a place are sliced.
-use Rattle.std.proofs.Common.{◌≡◌, ◌≤◌, List, ◌++◌, length, take}
+use Rattle.std.proofs.Common.{◌≡◌, List, ◌++◌, length, take}
 use Rattle.lean_items.specs.declared.arrival.Arrival.{Arrival}
 use Rattle.frontier_sync.specs.Heads.{AreRising, AreOpen}
 use Rattle.frontier_sync.specs.Seen.{IsSeen}

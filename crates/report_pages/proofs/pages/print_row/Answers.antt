@@ -1,7 +1,5 @@
 -- The line stands on the page that was turned.
-use Rattle.std.proofs.Common.{◌++◌, subst}
 use Rattle.report_pages.specs.Lines.{row_line}
-use Rattle.report_pages.specs.Printed.{Prints}
 use Rattle.report_pages.proofs.PrintedLemmas.{prints-line}
 use Rattle.report_pages.proofs.pages.print_row.Goals as goal
 
