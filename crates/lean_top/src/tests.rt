@@ -1,5 +1,5 @@
 //! Worked daily tapes through both top calls, over folders and sinks in memory that fail at chosen calls.
-ghost use Rattle.std.specs.Prelude.{◌≤◌};
+ghost use Rattle.std.specs.Prelude.{◌<◌, ◌≤◌};
 
 use crate::{Status, lean_main, lean_offline};
 use lean_io::{Folder, MemFolder, MemSink};
@@ -246,19 +246,20 @@ pub(crate) fn check_writes(
     words: &str,
     files: &str,
     whole: &str,
-    writes: u64,
+    writes: usize,
 ) -> Result<(), Fail>
     requires { writes < 100 }
 {
     let words = words_of(alloc, words)?;
     for k in 1..writes + 1 {
         let mut fails = Vec::new(alloc);
-        fails.push(k)?;
+        fails.push(k as u64)?;
         let mut folder = folder_of(alloc, files, Vec::new(alloc))?;
         let mut out = MemSink::new(alloc, 16, 65_536, fails)?;
         let status = lean_offline(alloc, &words, &mut folder, &mut out);
-        let front = &whole.as_bytes()[..whole.len().min(16 * (k as usize - 1))];
-        if status != Status::WriteFault || out.bytes() != front {
+        let bytes = out.bytes();
+        let count = bytes.len() / 16;
+        if status != Status::WriteFault || !whole.as_bytes().starts_with(bytes) || count + 1 != k {
             Err(format!(in alloc; "write {k} of {whole}")?)?;
         }
     }
