@@ -6,4 +6,4 @@ pub returns-in-None : goal.returns-in-None
 returns-in-None c = number_of_day _ None c.in-None.ensures.value
 
 pub returns-in-Some : goal.returns-in-Some
-returns-in-Some c = rw c.unsigned_abs.ensures.value (number_of_day _ (Some c.in-Some.day) c.in-Some.ensures.value)
+returns-in-Some c = rw c.number_of.ensures (number_of_day _ (Some c.in-Some.day) c.in-Some.ensures.value)
