@@ -5,6 +5,7 @@ use Rattle.std.specs.Option.{option_map_or}
 use Rattle.std.specs.List.{fold, filter_map, cons_option}
 use Rattle.std.proofs.lemmas.List.{map-append}
 use Rattle.std.proofs.lemmas.List.Sums.{fold-append}
+use Rattle.lean_fixed.specs.Ranges.{is_price}
 use Rattle.lean_fixed.specs.declared.money.Price.{Price}
 use Rattle.lean_fixed.specs.declared.time.Moment.{Moment}
 use Rattle.exchange_hours.specs.Sessions.{is_open_at}
@@ -18,14 +19,15 @@ use Rattle.lean_orders.specs.declared.event.Cause.{Cause}
 use Rattle.lean_orders.specs.declared.event.Cause.TheVariants.{PriceForm, Closed}
 use Rattle.lean_orders.specs.declared.event.What.TheVariants as what
 use Rattle.lean_orders.specs.declared.event.Fill.{Fill}
+use Rattle.lean_orders.specs.declared.desk.PriceBar.{PriceBar}
 use Rattle.lean_orders.specs.declared.desk.Reply.{Reply}
 use Rattle.lean_orders.specs.declared.desk.Reply.TheVariants as reply
 use Rattle.lean_orders.specs.declared.desk.Command.{Command}
 use Rattle.lean_orders.specs.declared.desk.Command.TheVariants as command
 use Rattle.portfolio.specs.Sums as sums
 use Rattle.clock_book.specs.Books.{Book, price_mark, price_marks, price_of, order_of, is_live, bar_to_try}
-use Rattle.clock_book.specs.Submits.{is_price, has_price, next_id, order_for, submit_cause}
-use Rattle.clock_book.specs.Matches.{bar_of, triggers_by, after_trigger, fill_by, matched, in_state, after_match, filled_event, match_event}
+use Rattle.clock_book.specs.Submits.{has_price, next_id, order_for, submit_cause}
+use Rattle.clock_book.specs.Matches.{bar_of, is_set_off, set_off, fill_on, after_trigger, matched, in_state, after_match, filled_event, match_event}
 use Rattle.clock_book.specs.Handled.{Handled, refused_submit, resting_submit, market_submit, accepted_submit, priced_submit, judged_submit, handled_match, at_price, replaced, updated_order, update_found, canceled_order, cancel_found, handled, after, replies, refused, done, said, with_orders}
 use Rattle.clock_book.specs.Seen.{resting_of, live_of, Seen, seen_of, without_id, learnt, given_out, AreNumbered}
 use Rattle.clock_book.proofs.SeenLemmas.{learnt-all_given, less_differs, more_differs, itself, numbered_push, numbered_map, replaced_id, live_append, live_first, without-append, without-first, lacks, Parted, parted}
@@ -121,33 +123,32 @@ module _ (fill : Order → Option Fill) (first : Order → Order) (at : Moment) 
       by false l f e filled live dead = learns-dead fills before o xs l (lives o l) dead
 
 matched_live : (book : Book) (o : Order) → is_live o.state ≡ false → matched book o ≡ None
-matched_live book o dead = ap (λ b. option_and_then (fill_by book (after_trigger book o)) (if b then bar_to_try book o.symbol else None)) dead
+matched_live book o dead = ap (λ b. option_and_then (fill_on book.costs book.hours o) (if b then bar_to_try book o.symbol else None)) dead
 
-triggered_rests : (o : Order) (b : Bool) → resting_of (if b then record o { triggered = true } else o) ≡ resting_of o
-triggered_rests o true = refl
-triggered_rests o false = refl
-
-triggered_state : (o : Order) (b : Bool) → (if b then record o { triggered = true } else o).state ≡ o.state
-triggered_state o true = refl
-triggered_state o false = refl
-
-abbrev is_triggered : Book → Order → Bool
-is_triggered book o = option_map_or (triggers_by book o) (bar_of book o) false
+-- a trigger changes no more than the trigger
+same_but : {A : Type 0} (f : Order → A) → ((o : Order) → f (record o { triggered = true }) ≡ f o) → (book : Book) (o : Order) → f (after_trigger book o) ≡ f o
+same_but f same book o = by (bar_of book o)
+  where
+    by : (bar : Option PriceBar) → f (option_map_or (set_off book.hours o) bar o) ≡ f o
+    by None = refl
+    by (Some bar) = one (is_set_off book.hours o bar)
+      where
+        one : (b : Bool) → f (if b then record o { triggered = true } else o) ≡ f o
+        one true = same o
+        one false = refl
 
 tried_id : (book : Book) (o : Order) → (after_match book o).id ≡ o.id
-tried_id book o = by (is_some (matched book o)) (is_triggered book o)
+tried_id book o = by (is_some (matched book o)) ∙ same_but (λ (o : Order). o.id) (λ o. refl) book o
   where
-    by : (f b : Bool) → (if f then in_state state.Filled (if b then record o { triggered = true } else o) else (if b then record o { triggered = true } else o)).id ≡ o.id
-    by true true = refl
-    by true false = refl
-    by false true = refl
-    by false false = refl
+    by : (b : Bool) → (if b then in_state state.Filled (after_trigger book o) else after_trigger book o).id ≡ (after_trigger book o).id
+    by true = refl
+    by false = refl
 
 match-told : (book : Book) (at : Moment) → AreNumbered 1 book.orders → IsTold (seen_of book) (handled_match book at)
 match-told book at numbered =
     fold-append learnt (seen_of book) (filter_map (match_event book at) book.orders) (reply.Done ∷ [])
     ∙ learns (matched book) (after_trigger book) at book.start (price_marks book) (matched_live book)
-    (λ o. triggered_rests o (is_triggered book o)) (λ o. triggered_state o (is_triggered book o)) 1 book.fills [] book.orders numbered (λ id more. refl)
+    (same_but resting_of (λ o. refl) book) (same_but (λ (o : Order). o.state) (λ o. refl) book) 1 book.fills [] book.orders numbered (λ id more. refl)
 
 -- ---- an order more
 

@@ -1,5 +1,6 @@
 -- What each command does to a book and what it replies.
 use Rattle.std.specs.Prelude.{ℕ, ◌==◌, ℤ, not, ◌||◌, if◌then◌else◌, List, [], ◌∷◌, ◌++◌, map, Option, Some, None}
+use Rattle.lean_fixed.specs.Ranges.{is_price}
 use Rattle.lean_fixed.specs.declared.money.Price.{Price}
 use Rattle.lean_fixed.specs.declared.time.Moment.{Moment}
 use Rattle.exchange_hours.specs.Sessions.{is_open_at}
@@ -19,7 +20,7 @@ use Rattle.lean_orders.specs.declared.desk.Reply.TheVariants as reply
 use Rattle.lean_orders.specs.declared.desk.Command.{Command}
 use Rattle.lean_orders.specs.declared.desk.Command.TheVariants as command
 use Rattle.clock_book.specs.Books.{BarMark, Book, price_of, cash_of, equity_of, order_of, is_live}
-use Rattle.clock_book.specs.Submits.{is_price, has_price, next_id, kept_price, kept_limit, order_for, submit_cause, market_fill}
+use Rattle.clock_book.specs.Submits.{has_price, next_id, kept_price, kept_limit, order_for, submit_cause, market_fill}
 use Rattle.clock_book.specs.Matches.{match_events, book_after_match, in_state}
 
 -- the replies to a command, of which `Done` is the last, and the book after it

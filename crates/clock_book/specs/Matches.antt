@@ -3,6 +3,7 @@ use Rattle.std.specs.Prelude.{is_some, Bool, true, false, ◌&&◌, if◌then◌
 use Rattle.std.specs.List.{filter_map}
 use Rattle.std.specs.Option.{option_map_or}
 use Rattle.lean_fixed.specs.declared.time.Moment.{Moment}
+use Rattle.exchange_hours.specs.Entries.{Entries}
 use Rattle.lean_orders.specs.declared.order.Kind.{Kind}
 use Rattle.lean_orders.specs.declared.order.Kind.TheVariants.{Market, Limit, Stop, AtOpen, StopLimit}
 use Rattle.lean_orders.specs.declared.order.Order.{Order}
@@ -13,6 +14,7 @@ use Rattle.lean_orders.specs.declared.event.What.TheVariants as what
 use Rattle.lean_orders.specs.declared.desk.PriceBar.{PriceBar}
 use Rattle.lean_orders.specs.declared.desk.Reply.{Reply}
 use Rattle.lean_orders.specs.declared.desk.Reply.TheVariants.{Event}
+use Rattle.trade_costs.specs.declared.costs.Costs.{Costs}
 use Rattle.fill_models.specs.FillPrice.{triggers, fill_price}
 use Rattle.clock_book.specs.Books.{Book, is_live, bar_to_try, table_bar, opening_of}
 use Rattle.clock_book.specs.Submits.{fill_at}
@@ -29,24 +31,27 @@ is_stop_limit AtOpen = false
 is_stop_limit StopLimit = true
 
 -- a bar triggers a stop-limit order, if the bar's day has a session
-abbrev pub triggers_by : Book → Order → PriceBar → Bool
-triggers_by book order bar =
-    is_stop_limit order.kind && (is_some (opening_of book.hours bar.start.0) && triggers order (table_bar bar))
+abbrev pub is_set_off : Entries → Order → PriceBar → Bool
+is_set_off hours order bar =
+    is_stop_limit order.kind && (is_some (opening_of hours bar.start.0) && triggers order (table_bar bar))
 
--- a stop-limit order that the bar triggers becomes triggered first, whether it then fills or not
+-- an order that the bar triggers is triggered from then on, whether it then fills or not
+abbrev pub set_off : Entries → Order → PriceBar → Order
+set_off hours order bar = if is_set_off hours order bar then record order { triggered = true } else order
+
+-- the fill of an order by a bar, if the bar's day has a session and the fill table has a price for the order, which may just
+-- have been triggered
+abbrev pub fill_on : Costs → Entries → Order → PriceBar → Option Fill
+fill_on costs hours order bar =
+    option_map (fill_at costs order.symbol order.quantity.0)
+    (option_and_then (λ opens. fill_price (set_off hours order bar) (table_bar bar) opens costs) (opening_of hours bar.start.0))
+
+-- in a match an order is triggered first, and then filled
 abbrev pub after_trigger : Book → Order → Order
-after_trigger book order =
-    if option_map_or (triggers_by book order) (bar_of book order) false then record order { triggered = true } else order
+after_trigger book order = option_map_or (set_off book.hours order) (bar_of book order) order
 
--- the fill of an order by a bar, if the bar's day has a session and the fill table has a price
-abbrev pub fill_by : Book → Order → PriceBar → Option Fill
-fill_by book order bar =
-    option_map (fill_at book.costs order.symbol order.quantity.0)
-    (option_and_then (λ opens. fill_price order (table_bar bar) opens book.costs) (opening_of book.hours bar.start.0))
-
--- the fill of an order in a match
 abbrev pub matched : Book → Order → Option Fill
-matched book order = option_and_then (fill_by book (after_trigger book order)) (bar_of book order)
+matched book order = option_and_then (fill_on book.costs book.hours order) (bar_of book order)
 
 -- an order in another state
 abbrev pub in_state : OrderState → Order → Order

@@ -1,6 +1,6 @@
 -- A submit: the first cause for which it is refused, or the order that it makes.
-use Rattle.std.specs.Prelude.{ℕ, ◌+◌, nat_le, ◌==◌, ℤ, pos, unsigned_abs, int_le, Bool, true, false, not, ◌&&◌, ◌||◌, if◌then◌else◌, List, length, Option, Some, None}
-use Rattle.lean_fixed.specs.Ranges.{most_quantity, most_price}
+use Rattle.std.specs.Prelude.{ℕ, ◌+◌, nat_le, ◌==◌, ℤ, pos, unsigned_abs, Bool, true, false, not, ◌&&◌, ◌||◌, if◌then◌else◌, List, length, Option, Some, None}
+use Rattle.lean_fixed.specs.Ranges.{most_quantity, is_price}
 use Rattle.lean_fixed.specs.declared.money.Price.{Price}
 use Rattle.lean_fixed.specs.declared.time.Moment.{Moment}
 use Rattle.lean_orders.specs.declared.order.Kind.{Kind}
@@ -21,10 +21,6 @@ use Rattle.clock_book.specs.Books.{Book, price_of, position_of, equity_of, other
 -- a quantity that may be asked for
 abbrev pub is_quantity : ℤ → Bool
 is_quantity quantity = not (unsigned_abs quantity == 0) && nat_le (unsigned_abs quantity) most_quantity
-
--- a price that an order may have
-abbrev pub is_price : ℤ → Bool
-is_price price = int_le (pos 1) price && int_le price (pos most_price)
 
 -- whether orders of a kind rest at a price of their own
 abbrev pub has_price : Kind → Bool

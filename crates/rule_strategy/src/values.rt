@@ -1,10 +1,9 @@
 //! The kinds of values. Each answers `None` exactly where a value is of another kind or out of its range.
-ghost use Rattle.std.specs.Prelude.{◌≡◌, ◌≤◌, unsigned_abs, bytes_eq, option_map, IfSome};
+ghost use Rattle.std.specs.Prelude.{◌≡◌, ◌≤◌, ◌^◌, bytes_eq, option_map, IfSome, unsigned_abs};
 ghost use Rattle.std.specs.List.{list_any};
 ghost use Rattle.toml.specs.Data.{as_str};
 ghost use Rattle.toml.specs.View.{view};
 ghost use Rattle.lean_fixed.specs.Calendar.{day_of_digits};
-ghost use Rattle.lean_fixed.specs.Ranges.{IsDay};
 ghost use Rattle.rule_strategy.specs.Securities.{symbols_of};
 ghost use Rattle.rule_strategy.specs.Values.{within, whole, amount, symbol, new_symbol, window_day, resolution, resolution_of, kind, kind_of, verb, verb_of, period, period_of};
 
@@ -97,7 +96,7 @@ pub(crate) fn window_day(value: &Value) -> Option<u32>
     ensures value { result ≡ window_day (view value.now) }
     ensures range { IfSome result (λ n. (1 ≤ n) × (n ≤ 84004)) }
 {
-    let number = day_number(text(value)?.as_bytes())?;
+    let number = day_number(text(value)?)?;
     if FIRST_DAY <= number && number <= LAST_DAY {
         Some(number)
     } else {
@@ -105,17 +104,16 @@ pub(crate) fn window_day(value: &Value) -> Option<u32>
     }
 }
 
-fn day_number(text: &[u8]) -> Option<u32>
+fn day_number(text: &str) -> Option<u32>
     ensures { result ≡ day_of_digits text.now }
 {
-    match Day::read(text) {
+    match Day::read(text.as_bytes()) {
         None => None,
         Some(day) => Some(number_of(day)),
     }
 }
 
 fn number_of(day: Day) -> u32
-    requires { IsDay day.0 }
     ensures { result ≡ unsigned_abs day.0 }
 {
     day.0.unsigned_abs()
