@@ -5,25 +5,8 @@ ghost use Rattle.trade_costs.specs.Fees.{IsCosts};
 
 use lean_fixed::{Money, Price, Shares, Symbol};
 use std::alloc::Global;
-use std::fmt::Write;
 use std::test::Fail;
 use trade_costs::Costs;
-
-// The inputs of some cases, each with what the call answers, as lines `input = answer`.
-pub fn answered<F: Fn(Global, &str) -> Result<String, Fail>>(
-    alloc: Global,
-    cases: &str,
-    answer: F,
-) -> Result<String, Fail>
-    requires { F.IsAlwaysCallable answer }
-{
-    let mut said = String::new(alloc);
-    for case in cases.lines() {
-        let (input, _) = case.split_once(" = ").ok_or("no answer")?;
-        writeln!(said, "{input} = {}", answer(alloc, input)?)?;
-    }
-    Ok(said)
-}
 
 pub fn word(alloc: Global, text: &str) -> Result<String, Fail> {
     Ok(String::from_str(alloc, text)?)

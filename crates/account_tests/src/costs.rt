@@ -1,7 +1,8 @@
-use crate::cases::{answered, costs, price, within, word};
+use crate::cases::{costs, price, within, word};
 use lean_fixed::{Shares, Side};
 use std::alloc::Global;
 use std::test::Fail;
+use test_cases::cases::check;
 
 // The fee of a share, the least fee and the shares.
 const FEES: &str = "\
@@ -23,8 +24,7 @@ fn fee(alloc: Global, text: &str) -> Result<String, Fail> {
 
 #[test]
 fn fees(rt: HostRuntime) -> Result<(), Fail> {
-    assert_eq!(rt; answered(rt.alloc(), FEES, fee)?.as_str(), FEES);
-    Ok(())
+    check(rt.alloc(), FEES, fee)
 }
 
 // The slip, the side and the price.
@@ -53,6 +53,5 @@ fn slipped(alloc: Global, text: &str) -> Result<String, Fail> {
 
 #[test]
 fn slips(rt: HostRuntime) -> Result<(), Fail> {
-    assert_eq!(rt; answered(rt.alloc(), SLIPS, slipped)?.as_str(), SLIPS);
-    Ok(())
+    check(rt.alloc(), SLIPS, slipped)
 }

@@ -2,11 +2,12 @@ ghost use Rattle.std.specs.Prelude.{◌≤◌, IfOk};
 ghost use Rattle.lean_fixed.specs.Ranges.{IsMoney, IsPosition};
 ghost use Rattle.buying_power.specs.Buying.{IsPower};
 
-use crate::cases::{answered, fee, price, quantity, within, word};
+use crate::cases::{fee, price, quantity, within, word};
 use buying_power::{Power, allows};
 use lean_fixed::{Money, Shares};
 use std::alloc::Global;
 use std::test::Fail;
+use test_cases::cases::check;
 
 // The equity, the gross value of the others, the position, the price, the quantity, the leverage and the fee.
 const QUESTIONS: &str = "\
@@ -82,9 +83,5 @@ fn answer(alloc: Global, text: &str) -> Result<String, Fail> {
 
 #[test]
 fn questions(rt: HostRuntime) -> Result<(), Fail> {
-    assert_eq!(rt;
-        answered(rt.alloc(), QUESTIONS, answer)?.as_str(),
-        QUESTIONS
-    );
-    Ok(())
+    check(rt.alloc(), QUESTIONS, answer)
 }

@@ -3,7 +3,7 @@ ghost use Rattle.lean_fixed.specs.Ranges.{IsPrice, IsFillPrice, IsQuantity};
 ghost use Rattle.lean_orders.specs.Traded.{IsFill};
 ghost use Rattle.portfolio.specs.Stands.{fills_applied};
 
-use crate::cases::{answered, fee as money, price, quantity, symbol, within};
+use crate::cases::{fee as money, price, quantity, symbol, within};
 use lean_fixed::{Money, NoMemory, Price, Shares, Symbol, laws};
 use lean_orders::Fill;
 use portfolio::Portfolio;
@@ -11,6 +11,7 @@ use std::alloc::Global;
 use std::fmt::Write;
 use std::str;
 use std::test::Fail;
+use test_cases::cases::check;
 
 // A starting cash, and then fills as `symbol@quantity@price@fee` and marks as `symbol@price`. The answer is cash, fees,
 // realised profit and equity, and of each symbol in the order in which it was held its position, its price and the gross
@@ -148,6 +149,5 @@ fn say_holding(portfolio: &Portfolio, symbol: Symbol, said: &mut String) -> Resu
 
 #[test]
 fn accounts(rt: HostRuntime) -> Result<(), Fail> {
-    assert_eq!(rt; answered(rt.alloc(), ACCOUNTS, sums_of)?.as_str(), ACCOUNTS);
-    Ok(())
+    check(rt.alloc(), ACCOUNTS, sums_of)
 }

@@ -1,10 +1,9 @@
 -- The windows of a security together: they keep what they must, and their values are those over all closes.
-use Rattle.std.proofs.Common.{ℕ, ◌-◌, ◌<◌, ◌≤◌, ◌≡◌, List, [], ◌∷◌, ◌++◌, length, map, get_or, All, Option, Some, IfSome, option_map, suc, ℤ, refl, sym, ap, ◌∙◌, subst}
+use Rattle.std.proofs.Common.{ℕ, ◌<◌, ◌≤◌, ◌≡◌, List, [], ◌∷◌, ◌++◌, length, map, get_or, All, Option, Some, IfSome, option_map, suc, ℤ, refl, sym, ap, ◌∙◌, subst}
 use Rattle.std.specs.List.{slice_get}
-use Rattle.std.proofs.lemmas.List.Elements.{All-nil, All-cons, All-head, All-tail, All-map, All-push, All-drop}
+use Rattle.std.proofs.lemmas.List.Elements.{All-nil, All-cons, All-head, All-tail, All-map}
 use Rattle.std.proofs.lemmas.Option.{slice_get-get_or, slice_get-map}
 use Rattle.circular_buffer.specs.Buffer.{Buffer, buffer, keep_last}
-use Rattle.lean_fixed.specs.Ranges.{IsPrice}
 use Rattle.lean_fixed.specs.declared.money.Price.{Price}
 use Rattle.bar_windows.specs.declared.spec.WindowSpec.{WindowSpec}
 use Rattle.bar_windows.specs.declared.window.Window.{Window}
@@ -30,21 +29,18 @@ pub new_heard : (ring : Buffer Price) (windows : List Window) (specs : List Wind
     → All (λ spec. reach_of spec ≤ most) specs → All (Heard []) windows → AreHeard ring windows
 new_heard ring windows specs most is made reach heard =
     subst (λ b. AreHeard b windows) (sym is) (record {
-      prices = All-nil (λ close. IsPrice close.0);
       reach = of_each (λ spec. reach_of spec ≤ most) windows specs made reach;
       heard = heard;
     })
 
 -- windows that have heard one close more
-pub push_heard : (ring after : Buffer Price) (windows next : List Window) (close : Price) → AreHeard ring windows → IsPrice close.0
+pub push_heard : (ring after : Buffer Price) (windows next : List Window) (close : Price) → AreHeard ring windows
     → after ≡ buffer (keep_last ring.capacity (ring.items ++ close ∷ [])) ring.capacity
     → map spec_of next ≡ map spec_of windows → All (Heard (ring.items ++ close ∷ [])) next → AreHeard after next
-push_heard ring after windows next close are price is specs heard =
+push_heard ring after windows next close are is specs heard =
     let reach : All (λ window. reach_of window.spec ≤ ring.capacity) next =
     of_each (λ spec. reach_of spec ≤ ring.capacity) next (map spec_of windows) specs (to_each (λ spec. reach_of spec ≤ ring.capacity) windows are.reach) in
     subst (λ b. AreHeard b next) (sym is) (record {
-      prices = All-drop (λ close. IsPrice close.0) (length (ring.items ++ close ∷ []) - ring.capacity) (ring.items ++ close ∷ [])
-          (All-push (λ close. IsPrice close.0) ring.items close are.prices price);
       reach = reach;
       heard = λ k d within. heard_last (get_or next k d) ring.capacity (ring.items ++ close ∷ []) (reach k d within) (heard k d within);
     })

@@ -29,7 +29,7 @@ abbrev pub reaches : Func → Price → Price → Bool
 reaches Lowest earlier later = int_le earlier.0 later.0
 reaches _ earlier later = int_le later.0 earlier.0
 
--- the closes that no later one lies beyond
+-- the closes that no later one lies beyond, in their order: what a monotonic queue holds
 abbrev pub candidates : Func → List Price → List Price
 candidates func [] = []
 candidates func (close ∷ closes) =

@@ -1,7 +1,6 @@
 -- What windows remember of the closes.
 use Rattle.std.specs.Prelude.{◌≡◌, ℕ, ◌≤◌, List, All}
 use Rattle.circular_buffer.specs.Buffer.{Buffer}
-use Rattle.lean_fixed.specs.Ranges.{IsPrice}
 use Rattle.lean_fixed.specs.declared.money.Price.{Price}
 use Rattle.bar_windows.specs.declared.spec.WindowSpec.{WindowSpec}
 use Rattle.bar_windows.specs.declared.window.Window.{Window}
@@ -19,7 +18,6 @@ spec_of window = window.spec
 
 -- the closes reach as far back as each window looks, and each window has heard them
 pub record AreHeard (ring : Buffer Price) (windows : List Window) : Type 0 where
-  pub prices : All (λ close. IsPrice close.0) ring.items
   pub reach : All (λ window. reach_of window.spec ≤ ring.capacity) windows
   pub heard : All (Heard ring.items) windows
 

@@ -5,9 +5,9 @@ ghost use Rattle.lean_fixed.specs.Ranges.{IsPrice};
 ghost use Rattle.bar_windows.specs.Kept.{IsLength, Heard, reach_of};
 ghost use Rattle.bar_windows.specs.Recent.{spec_of};
 
+use crate::closes::Closes;
 use crate::window::Window;
 use crate::{Func, WindowSpec};
-use circular_buffer::HeapCircularBuffer;
 use lean_fixed::{NoMemory, Price};
 use std::alloc::Global;
 
@@ -45,9 +45,8 @@ fn reach(spec: &WindowSpec) -> usize
     }
 }
 
-pub(crate) fn hear_all(windows: &mut Vec<Window>, closes: &HeapCircularBuffer<Price>, close: Price)
+pub(crate) fn hear_all(windows: &mut Vec<Window>, closes: &Closes, close: Price)
     requires heard { All (Heard closes.now.items) windows.old.items }
-    requires prices { All (λ close. IsPrice close.0) closes.now.items }
     requires price { IsPrice close.0 }
     ensures specs { map spec_of windows.new.items ≡ map spec_of windows.old.items }
     ensures heard { All (Heard (closes.now.items ++ close ∷ [])) windows.new.items }

@@ -1,5 +1,5 @@
-//! The closes of a window that can still become its extreme: those that no later close lies beyond, of which the first
-//! is the extreme.
+//! The greatest or the least of the last closes by a monotonic queue: it holds the closes that can still become the
+//! extreme, those that no later close lies beyond, and the first of them is the extreme.
 
 ghost use Rattle.std.specs.Prelude.{◌≡◌, ◌≤◌, List, length as length_of, filter, slice_get, true, false};
 ghost use Rattle.std.specs.Option.{option_map_or};

@@ -4,6 +4,7 @@
 
 mod all;
 mod candidates;
+mod closes;
 mod spec;
 mod window;
 mod windows;

@@ -4,6 +4,7 @@ ghost use Rattle.lean_fixed.specs.Ranges.{IsPrice};
 ghost use Rattle.bar_windows.specs.Window.{window, last_closes, total, close_before};
 
 use crate::candidates::{first, renew};
+use crate::closes::Closes;
 use crate::{Func, WindowSpec};
 use circular_buffer::HeapCircularBuffer;
 use lean_fixed::{NoMemory, Price};
@@ -16,7 +17,7 @@ pub(crate) enum Kept {
     Nothing,
     // the sum of the closes of an average
     Sum(i64),
-    // the closes that no later one lies beyond, of which the first is the extreme
+    // a monotonic queue: the closes that no later one lies beyond, of which the first is the extreme
     Candidates(HeapCircularBuffer<Price>),
 }
 
@@ -46,9 +47,8 @@ impl Window {
     }
 
     // Hears the close that comes after these.
-    pub(crate) fn hear(&mut self, closes: &HeapCircularBuffer<Price>, close: Price)
+    pub(crate) fn hear(&mut self, closes: &Closes, close: Price)
         requires heard { Heard closes.now.items self.old }
-        requires prices { All (λ close. IsPrice close.0) closes.now.items }
         requires price { IsPrice close.0 }
         ensures spec { self.new.spec ≡ self.old.spec }
         ensures heard { Heard (closes.now.items ++ close ∷ []) self.new }
@@ -62,9 +62,8 @@ impl Window {
     }
 
     // The value of the window after these closes.
-    pub(crate) fn value(&self, closes: &HeapCircularBuffer<Price>) -> Option<i64>
-        requires heard { Heard closes.now.items self.now }
-        requires prices { All (λ close. IsPrice close.0) closes.now.items }
+    pub(crate) fn value(&self, closes: &Closes) -> Option<i64>
+        requires { Heard closes.now.items self.now }
         ensures { result ≡ window self.now.spec.func self.now.spec.length closes.now.items }
     {
         let length = self.spec.length as usize;
@@ -77,8 +76,7 @@ impl Window {
 }
 
 // The last close less the one so many before it.
-fn change(closes: &HeapCircularBuffer<Price>, length: usize) -> Option<i64>
-    requires { All (λ close. IsPrice close.0) closes.now.items }
+fn change(closes: &Closes, length: usize) -> Option<i64>
     ensures { result ≡ window Func.Change length closes.now.items }
 {
     if closes.len() <= length {
@@ -88,14 +86,13 @@ fn change(closes: &HeapCircularBuffer<Price>, length: usize) -> Option<i64>
 }
 
 // The close that came so many before the last.
-fn close_before(closes: &HeapCircularBuffer<Price>, count: usize) -> Price
-    requires count { count < length_of closes.now.items }
-    requires prices { All (λ close. IsPrice close.0) closes.now.items }
+fn close_before(closes: &Closes, count: usize) -> Price
+    requires { count < length_of closes.now.items }
     ensures value { result.0 ≡ close_before count closes.now.items }
     ensures price { IsPrice result.0 }
 {
-    match closes.nth_back(count) {
-        Some(close) => *close,
+    match closes.before(count) {
+        Some(close) => close,
         None => unreachable!(),
     }
 }
@@ -109,7 +106,7 @@ fn difference(last: Price, earlier: Price) -> i64
 }
 
 // The average of the last closes, of which this is the sum.
-fn average(closes: &HeapCircularBuffer<Price>, length: usize, sum: i64) -> Option<i64>
+fn average(closes: &Closes, length: usize, sum: i64) -> Option<i64>
     requires length { 1 ≤ length }
     requires small { length ≤ 1000 }
     requires sum { sum ≡ total (last_closes length closes.now.items) }
@@ -122,11 +119,7 @@ fn average(closes: &HeapCircularBuffer<Price>, length: usize, sum: i64) -> Optio
 }
 
 // The first of the candidates, where there are enough closes.
-fn extreme(
-    closes: &HeapCircularBuffer<Price>,
-    length: usize,
-    kept: &HeapCircularBuffer<Price>,
-) -> Option<i64>
+fn extreme(closes: &Closes, length: usize, kept: &HeapCircularBuffer<Price>) -> Option<i64>
     ensures { result ≡ (if nat_le length (length_of closes.now.items) then option_map (λ close. close.0) (slice_get kept.now.items 0) else None) }
 {
     if closes.len() < length {
@@ -136,11 +129,12 @@ fn extreme(
 }
 
 // The close that leaves a full window of a length as the next one comes.
-fn leaving(closes: &HeapCircularBuffer<Price>, length: usize) -> Option<Price>
+fn leaving(closes: &Closes, length: usize) -> Option<Price>
     requires { 1 ≤ length }
-    ensures { result ≡ (if nat_le length (length_of closes.now.items) then slice_get closes.now.items (length_of closes.now.items - length) else None) }
+    ensures leaving { result ≡ (if nat_le length (length_of closes.now.items) then slice_get closes.now.items (length_of closes.now.items - length) else None) }
+    ensures prices { All (λ close. IsPrice close.0) closes.now.items }
 {
-    closes.nth_back(length - 1).copied()
+    closes.before(length - 1)
 }
 
 fn moved(sum: i64, leaving: Option<Price>, close: Price) -> i64

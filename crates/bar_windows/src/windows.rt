@@ -1,12 +1,12 @@
-ghost use Rattle.std.specs.Prelude.{◌≡◌, ◌<◌, List, [], ◌∷◌, ◌++◌, length, slice_get, All, IfOk, IfSome};
+ghost use Rattle.std.specs.Prelude.{◌≡◌, ◌<◌, List, [], ◌∷◌, ◌++◌, length, slice_get, Some, All, IfOk, IfSome};
 ghost use Rattle.lean_fixed.specs.Ranges.{IsPrice};
 ghost use Rattle.lean_fixed.specs.declared.money.Price.{Price};
 ghost use Rattle.bar_windows.specs.Window.{window};
 
 use crate::WindowSpec;
 use crate::all::{hear_all, longest, windows_of};
+use crate::closes::Closes;
 use crate::window::Window;
-use circular_buffer::HeapCircularBuffer;
 use lean_fixed::{NoMemory, Price};
 use std::alloc::Global;
 use std::marker::Model;
@@ -15,7 +15,7 @@ use std::marker::Model;
 #[derive(Drop)]
 pub struct Windows {
     // as many of the last closes as the longest window looks at
-    closes: HeapCircularBuffer<Price>,
+    closes: Closes,
     windows: Vec<Window>,
 }
 
@@ -46,7 +46,7 @@ impl Windows {
         ensures stands { IfOk result (λ windows. StandsFor windows []) }
     {
         let windows = windows_of(alloc, specs)?;
-        let closes = HeapCircularBuffer::with_capacity(alloc, longest(specs))?;
+        let closes = Closes::new(alloc, longest(specs))?;
         Ok(Windows { closes, windows })
     }
 
@@ -59,7 +59,22 @@ impl Windows {
             → StandsFor self.new (closes ++ close ∷ []) }
     {
         hear_all(&mut self.windows, &self.closes, close);
-        self.closes.push_back(close);
+        self.closes.push(close);
+    }
+
+    /// How many windows there are.
+    pub fn len(&self) -> usize
+        ensures { result ≡ length self.now.specs }
+    {
+        self.windows.len()
+    }
+
+    /// The specification of the window at an index.
+    pub fn spec(&self, index: usize) -> WindowSpec
+        requires { index < length self.now.specs }
+        ensures { slice_get self.now.specs index ≡ Some result }
+    {
+        self.windows[index].spec
     }
 
     /// The value of the window at an index, in 1/10000 dollar. `None` exactly where there are too few closes: fewer than

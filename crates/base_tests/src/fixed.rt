@@ -1,7 +1,6 @@
 ghost use Rattle.std.specs.Prelude.{IfOk};
 ghost use Rattle.lean_fixed.specs.Ranges.{IsDay};
 
-use crate::cases::{check, none};
 use lean_fixed::ranges::{LAST_DAY, LAST_PRINTED_MOMENT};
 use lean_fixed::{
     Day, Moment, Money, Price, Symbol, Window, day_text, laws, moment_text, money_text, price_text,
@@ -12,6 +11,7 @@ use std::cmp::Ordering;
 use std::collections::HashMap;
 use std::str;
 use std::test::Fail;
+use test_cases::cases::{check, none};
 
 const DIGITS: &str = "\
 0 = 0

@@ -1,6 +1,5 @@
 ghost use Rattle.std.specs.Prelude.{◌≡◌, true};
 
-use crate::cases::{check, compare, parts_of};
 use lean_fixed::NoMemory;
 use lean_io::{
     DirFolder, Failed, Folder, Hand, MemFolder, MemSink, Sink, StdSink, Whole, WriteFault,
@@ -10,6 +9,7 @@ use std::alloc::Global;
 use std::collections::BTreeMap;
 use std::fs;
 use std::test::Fail;
+use test_cases::cases::{check, compare, parts_of};
 
 // A file of so many bytes, which all differ from their neighbours.
 fn made(alloc: Global, length: usize) -> Result<Vec<u8>, NoMemory> {

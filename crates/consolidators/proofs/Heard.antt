@@ -1,14 +1,15 @@
 -- What a consolidator that stands for some bars does with the next one.
-use Rattle.std.proofs.Common.{◌≤ℤ◌, ◌≡◌, List, [], ◌∷◌, ◌++◌, All, Option, Some, None, arith, ap, ◌<ℤ◌, ◌∙◌, sym, subst, map}
+use Rattle.std.proofs.Common.{◌≤ℤ◌, ◌≡◌, List, [], ◌∷◌, ◌++◌, All, Option, Some, None, arith, ap, ◌<ℤ◌, ◌∙◌, sym, subst, map, get_or}
 use Rattle.std.specs.Option.{option_to_list}
 use Rattle.std.proofs.lemmas.Int.{ints}
-use Rattle.std.proofs.lemmas.List.Elements.{All-push, All-weaker, All-nil, All-cons}
+use Rattle.std.proofs.lemmas.List.Elements.{All-push, All-weaker, All-nil, All-cons, All-get_or}
+use Rattle.std.proofs.lemmas.List.Quantifiers.{all_pairs_push}
 use Rattle.lean_fixed.specs.declared.time.Moment.{Moment}
 use Rattle.lean_items.specs.declared.bar.Bar.{Bar}
 use Rattle.consolidators.specs.declared.consolidator.Consolidator.{Consolidator}
 use Rattle.consolidators.specs.Buckets.{bucket, open_buckets, not_given}
 use Rattle.consolidators.specs.Left.{Leaves, Turns}
-use Rattle.consolidators.specs.Pushed.{IsPushed, IsGiven}
+use Rattle.consolidators.specs.Pushed.{IsPushed, ArePushed, IsGiven}
 use Rattle.consolidators.specs.Stands.{StandsFor, EndsBy}
 use Rattle.consolidators.proofs.SoFar.{so_far_given}
 use Rattle.consolidators.proofs.Turns.{Follows, filter_map-all}
@@ -16,7 +17,7 @@ use Rattle.consolidators.proofs.Turns.{Follows, filter_map-all}
 pub follows : (c : Consolidator) (bars : List Bar) (bar : Bar) → StandsFor c bars → IsPushed c.period bar → EndsBy bar.start.0 c → Follows c.period bars bar
 follows c bars bar stands pushed ends = record {
   positive = c.lasts.0;
-  pushed = stands.pushed;
+  pushed = stands.pushed.each;
   ended = All-weaker (λ (b : Bar). b.end.0 ≤ℤ c.ended.0) (λ (b : Bar). b.end.0 ≤ℤ bar.start.0) (λ b le. omega (arith, ints)) bars stands.ended;
   after = pushed.after;
 }
@@ -39,7 +40,13 @@ ranges_of_rest c (Some h) is = All-cons (IsGiven c.period) h [] (so_far_given c.
 pub stands_push : (c d : Consolidator) (bars : List Bar) (bar : Bar) (gives : List Bar) → StandsFor c bars → IsPushed c.period bar → EndsBy bar.start.0 c
     → d.period ≡ c.period → d.ended ≡ bar.end → Turns c.period bars bar gives (option_to_list d.held) → StandsFor d (bars ++ bar ∷ [])
 stands_push c d bars bar gives stands pushed ends period ended turns = record {
-  pushed = subst (λ p. All (IsPushed p) (bars ++ bar ∷ [])) (sym period) (All-push (IsPushed c.period) bars bar stands.pushed pushed);
+  pushed = subst (λ p. ArePushed p (bars ++ bar ∷ [])) (sym period) (record {
+    each = All-push (IsPushed c.period) bars bar stands.pushed.each pushed;
+    order = all_pairs_push (λ (earlier later : Bar). earlier.end.0 ≤ℤ later.start.0) bars bar stands.pushed.order
+        (λ k d within.
+        let by : (get_or bars k d).end.0 ≤ℤ c.ended.0 = All-get_or (λ (b : Bar). b.end.0 ≤ℤ c.ended.0) bars k d within stands.ended in
+        omega (arith, ints));
+  });
   ended =
       let last : bar.end.0 ≡ d.ended.0 = ap (λ (m : Moment). m.0) (sym ended) in
       All-push (λ (b : Bar). b.end.0 ≤ℤ d.ended.0) bars bar

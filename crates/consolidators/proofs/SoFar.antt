@@ -41,9 +41,9 @@ joined-sound p ended so_far bar period sound pushed after before x is =
       within = omega (arith, ints);
       prices = record {
         opening = sound.prices.opening;
-        high = greater_price so_far.high.0 bar.high.0 sound.prices.high pushed.prices.high;
-        low = lesser_price so_far.low.0 bar.low.0 sound.prices.low pushed.prices.low;
-        closing = pushed.prices.closing;
+        high = greater_price so_far.high.0 bar.high.0 sound.prices.high pushed.numbers.prices.high;
+        low = lesser_price so_far.low.0 bar.low.0 sound.prices.low pushed.numbers.prices.low;
+        closing = pushed.numbers.prices.closing;
       };
       positive = omega (arith, ints);
       volume = omega (arith, ints);
@@ -74,12 +74,12 @@ opens-sound p bar x period pushed is =
       begun = omega (arith, ints);
       within = pushed.within;
       prices = record {
-        opening = pushed.prices.opening;
-        high = pushed.prices.high;
-        low = pushed.prices.low;
-        closing = pushed.prices.closing;
+        opening = pushed.numbers.prices.opening;
+        high = pushed.numbers.prices.high;
+        low = pushed.numbers.prices.low;
+        closing = pushed.numbers.prices.closing;
       };
-      positive = pushed.volume.0;
+      positive = pushed.numbers.volume.0;
       volume = omega (arith, ints);
     })
 

@@ -1,5 +1,6 @@
 -- What is owed of a bar that is pushed, and what the bar of a bucket keeps to.
-use Rattle.std.specs.Prelude.{◌≡◌, ℕ, ◌<◌, ◌≤◌, ℤ, pos, ◌+ℤ◌, ◌-ℤ◌, ◌*ℤ◌, ◌≤ℤ◌, ◌<ℤ◌}
+use Rattle.std.specs.Prelude.{◌≡◌, ℕ, ◌<◌, ◌≤◌, ℤ, pos, ◌+ℤ◌, ◌-ℤ◌, ◌*ℤ◌, ◌≤ℤ◌, ◌<ℤ◌, List, All}
+use Rattle.std.specs.List.{AllPairs}
 use Rattle.lean_fixed.specs.Ranges.{IsMoment, IsPrice, IsVolume, IsSumOfVolumes, most_volume}
 use Rattle.lean_items.specs.declared.bar.Bar.{Bar}
 use Rattle.consolidators.specs.Buckets.{bucket_start, bucket_end, bucket_of}
@@ -14,14 +15,23 @@ pub record ArePrices (bar : Bar) : Type 0 where
   pub low : IsPrice bar.low.0
   pub closing : IsPrice bar.closing.0
 
--- a bar that ends after its start and within its bucket
-pub record IsPushed (period : ℕ) (bar : Bar) : Type 0 where
+-- the numbers of a bar are in their ranges
+pub record AreNumbers (bar : Bar) : Type 0 where
   pub start : IsMoment bar.start.0
   pub end : IsMoment bar.end.0
-  pub after : bar.start.0 <ℤ bar.end.0
-  pub within : bar.end.0 ≤ℤ bucket_end period (bucket_of period bar)
   pub prices : ArePrices bar
   pub volume : IsVolume bar.volume.0
+
+-- a bar that ends after its start and within its bucket
+pub record IsPushed (period : ℕ) (bar : Bar) : Type 0 where
+  pub numbers : AreNumbers bar
+  pub after : bar.start.0 <ℤ bar.end.0
+  pub within : bar.end.0 ≤ℤ bucket_end period (bucket_of period bar)
+
+-- bars that may be pushed one after the other: none starts before one before it ended
+pub record ArePushed (period : ℕ) (bars : List Bar) : Type 0 where
+  pub each : All (IsPushed period) bars
+  pub order : AllPairs (λ earlier bar. earlier.end.0 ≤ℤ bar.start.0) bars
 
 -- the numbers of a bar that is given
 pub record IsGiven (period : ℕ) (bar : Bar) : Type 0 where

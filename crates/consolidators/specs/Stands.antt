@@ -4,7 +4,7 @@ use Rattle.std.specs.Option.{option_to_list}
 use Rattle.lean_items.specs.declared.bar.Bar.{Bar}
 use Rattle.consolidators.specs.declared.consolidator.Consolidator.{Consolidator}
 use Rattle.consolidators.specs.Left.{Leaves}
-use Rattle.consolidators.specs.Pushed.{IsPushed}
+use Rattle.consolidators.specs.Pushed.{ArePushed}
 
 -- the minutes of its buckets
 abbrev pub period_of : Consolidator → ℕ
@@ -16,6 +16,6 @@ EndsBy moment consolidator = consolidator.ended.0 ≤ℤ moment
 
 -- the consolidator stands for the list of the bars that were pushed
 pub record StandsFor (consolidator : Consolidator) (bars : List Bar) : Type 0 where
-  pub pushed : All (IsPushed consolidator.period) bars
+  pub pushed : ArePushed consolidator.period bars
   pub ended : All (λ bar. bar.end.0 ≤ℤ consolidator.ended.0) bars
   pub left : Leaves consolidator.period bars (option_to_list consolidator.held)

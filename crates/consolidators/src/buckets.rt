@@ -1,7 +1,7 @@
 ghost use Rattle.std.specs.Prelude.{◌≡◌, ◌+ℤ◌, ◌||◌, [], ◌∷◌, Some, FitsSigned};
 ghost use Rattle.std.specs.Int.{w64};
 ghost use Rattle.lean_fixed.specs.Ranges.{IsMoment};
-ghost use Rattle.consolidators.specs.Buckets.{bucket_start, bucket_at, bucket_of, bucket, greater, lesser, total};
+ghost use Rattle.consolidators.specs.Buckets.{bucket_start, bucket_end, bucket_at, bucket_of, bucket, greater, lesser, total};
 ghost use Rattle.consolidators.specs.Pushed.{IsPeriod, IsPushed};
 ghost use Rattle.consolidators.specs.Joined.{joined};
 
@@ -16,6 +16,15 @@ fn start_of(period: u32, at: Moment) -> i64
 {
     let minutes = period as i64;
     at.0.div_euclid(minutes) * minutes
+}
+
+// The moment at which the bucket of a moment ends.
+pub(crate) fn end_of(period: u32, at: Moment) -> i64
+    requires period { IsPeriod period }
+    requires at { IsMoment at.0 }
+    ensures { result ≡ bucket_end period (bucket_at period at.0) }
+{
+    start_of(period, at) + period as i64
 }
 
 // The bar of a bucket that holds one bar so far.

@@ -1,4 +1,4 @@
-ghost use Rattle.std.specs.Prelude.{◌≡◌, ◌≤ℤ◌, ℤ, List, [], ◌∷◌, ◌++◌, All};
+ghost use Rattle.std.specs.Prelude.{◌≡◌, ◌≤ℤ◌, ℤ, true, List, [], ◌∷◌, ◌++◌, All};
 ghost use Rattle.std.specs.Option.{ForSome, option_to_list};
 ghost use Rattle.lean_items.specs.declared.bar.Bar.{Bar};
 ghost use Rattle.lean_fixed.specs.Ranges.{IsMoment};
@@ -7,6 +7,7 @@ ghost use Rattle.consolidators.specs.Pushed.{IsPeriod, IsPushed, IsGiven, IsSoFa
 
 use crate::Given;
 use crate::buckets::{joined, opened};
+use crate::pushed::is_pushed;
 use crate::turn::{Turn, after_bucket, of_bucket};
 use lean_fixed::Moment;
 use lean_items::Bar;
@@ -44,9 +45,17 @@ impl Consolidator {
         }
     }
 
+    /// Whether a bar may be pushed next: its numbers are in their ranges, it ends after its start and within its bucket,
+    /// and it starts no earlier than the bar before it ended.
+    pub fn takes(&self, bar: &Bar) -> bool
+        ensures yes { result ≡ true → IsPushed (period_of self.now) bar.now × EndsBy bar.now.start.0 self.now }
+        ensures no { IsPushed (period_of self.now) bar.now → EndsBy bar.now.start.0 self.now → result ≡ true }
+    {
+        self.ended.0 <= bar.start.0 && is_pushed(self.period, bar)
+    }
+
     /// Pushes the next bar, and answers the bars of the buckets that it completes: its own where it ends with it, and
-    /// before that an earlier one. `Nothing` exactly where it completes none. The bar ends after its start and within
-    /// its bucket, and starts no earlier than the bar before it ended.
+    /// before that an earlier one. `Nothing` exactly where it completes none. The bar is one that it `takes`.
     pub fn push(&mut self, bar: &Bar) -> Given
         requires bar { IsPushed (period_of self.old) bar.now }
         requires follows { EndsBy bar.now.start.0 self.old }

@@ -6,6 +6,7 @@ mod buckets;
 mod consolidator;
 mod given;
 pub mod laws;
+mod pushed;
 mod turn;
 mod worked;
 

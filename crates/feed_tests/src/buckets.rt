@@ -1,19 +1,13 @@
-ghost use Rattle.std.specs.Prelude.{◌≡◌, true};
-ghost use Rattle.lean_fixed.specs.Ranges.{IsMoment, IsPrice, IsVolume};
-ghost use Rattle.consolidators.specs.Buckets.{bucket_at, bucket_end};
-ghost use Rattle.consolidators.specs.Pushed.{IsPeriod, ArePrices, IsPushed};
-ghost use Rattle.consolidators.specs.Stands.{EndsBy, period_of};
-
-use crate::cases::answered;
 use consolidators::{Consolidator, Given};
 use lean_fixed::{Moment, Price, Shares};
 use lean_items::Bar;
 use std::alloc::Global;
 use std::fmt::Write;
 use std::test::Fail;
+use test_cases::cases::check;
 
 // A period, and bars of start, end, opening, high, low, closing and volume; with ~ before it a bar is filled forward.
-// What each of them gives, and what is left.
+// What each of them gives, where it is taken, and what is left.
 const CASES: &str = "\
 5; 600 601 100 101 99 100 10; 609 610 102 103 102 103 4 = nothing; 600 605 100 101 99 100 10, 605 610 102 103 102 103 4; none left
 5; 600 601 100 101 99 100 10 = nothing; 600 605 100 101 99 100 10 left
@@ -30,107 +24,33 @@ const CASES: &str = "\
 5; ~600 601 5 5 5 5 0; 601 602 6 6 6 6 1; ~604 605 6 6 6 6 0 = nothing; nothing; 600 605 5 6 5 6 1; none left
 5; 0 1 10000000000 10000000000 1 1 1000000000000000; 1 5 1 1 1 1 1000000000000000 = nothing; 0 5 10000000000 10000000000 1 1 2000000000000000; none left
 5; -7 -6 5 5 5 5 1; -5 0 6 6 6 6 2 = nothing; -10 -5 5 5 5 5 1, -5 0 6 6 6 6 2; none left
+5; 600 602 5 5 5 5 1; 601 603 5 5 5 5 1; 602 603 5 5 5 5 1 = nothing; not taken; nothing; 600 605 5 5 5 5 2 left
+5; 604 606 5 5 5 5 1; 604 604 5 5 5 5 1; 604 605 5 5 5 5 1 = not taken; not taken; 600 605 5 5 5 5 1; none left
+5; -10001 -10000 5 5 5 5 1; -10000 -9999 5 5 5 5 1; 121000000 121000001 5 5 5 5 1 = not taken; nothing; not taken; -10000 -9995 5 5 5 5 1 left
+5; 600 601 0 5 5 5 1; 600 601 5 10000000001 5 5 1; 600 601 5 5 0 5 1; 600 601 5 5 5 0 1 = not taken; not taken; not taken; not taken; none left
+5; 600 601 5 5 5 5 -1; 600 601 5 5 5 5 1000000000000001; 600 601 5 5 5 5 0 = not taken; not taken; nothing; 600 605 5 5 5 5 0 left
 ";
 
-// A consolidator, with its period and the end of the last bar.
-#[derive(Drop)]
-struct Case {
-    consolidator: Consolidator,
-    period: u32,
-    ended: Moment,
-    ghost lasts: { IsPeriod period },
-    ghost of_period: { period_of consolidator ≡ period },
-    ghost ends: { EndsBy ended.0 consolidator },
+// The start of the last bar that each bar gives, or 0.
+const LASTS: &str = "\
+5; 600 601 5 5 5 5 1; 609 610 6 6 6 6 2 = 0;605;
+5; 604 605 5 5 5 5 1; 900 901 6 6 6 6 2; 901 902 6 6 6 6 2; 906 907 6 6 6 6 2 = 600;0;0;900;
+";
+
+// What a bar gives, where it is taken.
+fn pushed(consolidator: &mut Consolidator, bar: &Bar) -> Option<Given> {
+    if !consolidator.takes(bar) {
+        return None;
+    }
+    Some(consolidator.push(bar))
 }
 
-fn case_of(period: u32) -> Result<Case, Fail> {
+fn new_of(period: &str) -> Result<Consolidator, Fail> {
+    let period = period.parse::<u32>()?;
     if period == 0 || period > 1440 {
         return Err(Fail::from("no period"));
     }
-    Ok(Case {
-        consolidator: Consolidator::new(period),
-        period,
-        ended: Moment(-10_000),
-    })
-}
-
-fn is_moment(moment: Moment) -> bool
-    ensures { result ≡ true → IsMoment moment.0 }
-{
-    -10_000 <= moment.0 && moment.0 <= 121_000_000
-}
-
-fn is_price(price: Price) -> bool
-    ensures { result ≡ true → IsPrice price.0 }
-{
-    1 <= price.0 && price.0 <= 10_000_000_000
-}
-
-fn is_volume(volume: Shares) -> bool
-    ensures { result ≡ true → IsVolume volume.0 }
-{
-    0 <= volume.0 && volume.0 <= 1_000_000_000_000_000
-}
-
-fn are_prices(bar: &Bar) -> bool
-    ensures { result ≡ true → ArePrices bar.now }
-{
-    is_price(bar.opening) && is_price(bar.high) && is_price(bar.low) && is_price(bar.closing)
-}
-
-// The end of the bucket of a moment.
-fn end_of(period: u32, at: Moment) -> i64
-    requires period { IsPeriod period }
-    requires at { IsMoment at.0 }
-    ensures { result ≡ bucket_end period (bucket_at period at.0) }
-{
-    let minutes = period as i64;
-    at.0.div_euclid(minutes) * minutes + minutes
-}
-
-// Whether a bar may be pushed into buckets of a period.
-fn is_pushed(period: u32, bar: &Bar) -> bool
-    requires { IsPeriod period }
-    ensures { result ≡ true → IsPushed period bar.now }
-{
-    if !is_moment(bar.start) {
-        return false;
-    }
-    if !is_moment(bar.end) {
-        return false;
-    }
-    if !are_prices(bar) {
-        return false;
-    }
-    if !is_volume(bar.volume) {
-        return false;
-    }
-    if bar.end.0 <= bar.start.0 {
-        return false;
-    }
-    bar.end.0 <= end_of(period, bar.start)
-}
-
-// The case with one bar more, and what the bar gives.
-fn pushed(case: Case, bar: &Bar) -> Result<(Case, Given), Fail> {
-    let Case {
-        mut consolidator,
-        period,
-        ended,
-    } = case;
-    if !is_pushed(period, bar) {
-        return Err(Fail::from("a number out of range"));
-    }
-    if bar.start.0 < ended.0 {
-        return Err(Fail::from("a bar out of order"));
-    }
-    let given = consolidator.push(bar);
-    let case = Case {
-        consolidator,
-        period,
-        ended: bar.end,
-    };
-    Ok((case, given))
+    Ok(Consolidator::new(period))
 }
 
 fn bar_of(text: &str) -> Result<Bar, Fail> {
@@ -184,15 +104,16 @@ fn write_given(text: &mut String, given: &Given) -> Result<(), Fail> {
 
 fn consolidated(alloc: Global, input: &str) -> Result<String, Fail> {
     let (period, bars) = input.split_once("; ").ok_or("no period")?;
-    let mut case = case_of(period.parse::<u32>()?)?;
+    let mut consolidator = new_of(period)?;
     let mut text = String::new(alloc);
     for words in bars.split("; ") {
         let bar = bar_of(words)?;
-        let (next, given) = pushed(case, &bar)?;
-        case = next;
-        write_given(&mut text, &given)?;
+        match pushed(&mut consolidator, &bar) {
+            Some(given) => write_given(&mut text, &given)?,
+            None => text.push_str("not taken; ")?,
+        }
     }
-    match case.consolidator.rest() {
+    match consolidator.rest() {
         Some(bar) => write_bar(&mut text, &bar)?,
         None => text.push_str("none")?,
     }
@@ -200,8 +121,32 @@ fn consolidated(alloc: Global, input: &str) -> Result<String, Fail> {
     Ok(text)
 }
 
+fn last_start(given: Option<Given>) -> i64 {
+    let Some(given) = given else { return 0 };
+    match given.last() {
+        Some(bar) => bar.start.0,
+        None => 0,
+    }
+}
+
+fn lasts(alloc: Global, input: &str) -> Result<String, Fail> {
+    let (period, bars) = input.split_once("; ").ok_or("no period")?;
+    let mut consolidator = new_of(period)?;
+    let mut text = String::new(alloc);
+    for words in bars.split("; ") {
+        let bar = bar_of(words)?;
+        let start = last_start(pushed(&mut consolidator, &bar));
+        write!(text, "{start};")?;
+    }
+    Ok(text)
+}
+
 #[test]
 fn gives_the_bars_of_buckets(rt: HostRuntime) -> Result<(), Fail> {
-    assert_eq!(rt; answered(rt.alloc(), CASES, consolidated)?.as_str(), CASES);
-    Ok(())
+    check(rt.alloc(), CASES, consolidated)
+}
+
+#[test]
+fn tells_the_last_bar_given(rt: HostRuntime) -> Result<(), Fail> {
+    check(rt.alloc(), LASTS, lasts)
 }

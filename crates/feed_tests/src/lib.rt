@@ -5,8 +5,6 @@
 #[cfg(test)]
 mod buckets;
 #[cfg(test)]
-mod cases;
-#[cfg(test)]
 mod members;
 #[cfg(test)]
 mod selection;

@@ -1,15 +1,16 @@
-use crate::cases::none;
 use crate::selection::spelled;
 use lean_fixed::Symbol;
 use lean_items::FeedNo;
 use std::alloc::Global;
-use std::fmt::Write;
 use std::test::Fail;
+use test_cases::cases::{compare, none, parts_of};
 use universe_state::{ChooseRefusal, Universe};
 
 // SPY is listed, AAA is chosen on the first day and BBB on the second; AAA leaves and comes back.
 const CALLS: &str = "\
+count = 0
 list SPY 1 = done
+count = 1
 feed SPY = 1
 feed AAA = none
 choose AAA SPY = AAA
@@ -18,6 +19,7 @@ marked SPY = false
 marked AAA = false
 choose BBB = BBB
 join BBB 3 = done
+count = 3
 marked SPY = false
 marked AAA = true
 marked BBB = false
@@ -27,6 +29,7 @@ marked AAA = false
 choose BBB BBB CCC CCC = CCC
 marked AAA = true
 leave AAA = done
+count = 2
 feed AAA = none
 marked AAA = false
 leave AAA = done
@@ -65,6 +68,9 @@ fn called(alloc: Global, universe: &mut Universe, call: &str) -> Result<String, 
         }
         return chosen(alloc, universe, &symbols);
     }
+    if name == "count" {
+        return Ok(format!(in alloc; "{}", universe.len())?);
+    }
     let symbol = symbol_of(words.next().ok_or("no symbol")?)?;
     if name == "marked" {
         return Ok(format!(in alloc; "{}", universe.is_marked(symbol))?);
@@ -91,13 +97,11 @@ fn called(alloc: Global, universe: &mut Universe, call: &str) -> Result<String, 
 #[test]
 fn keeps_the_active_securities(rt: HostRuntime) -> Result<(), Fail> {
     let mut universe = Universe::new(rt.alloc());
-    let mut text = String::new(rt.alloc());
     for line in CALLS.lines() {
-        let (call, _) = line.split_once(" = ").ok_or("no answer")?;
+        let (call, wanted) = parts_of(line)?;
         let answer = called(rt.alloc(), &mut universe, call)?;
-        writeln!(text, "{call} = {answer}")?;
+        compare(rt.alloc(), call, &answer, wanted)?;
     }
-    assert_eq!(rt; text.as_str(), CALLS);
     Ok(())
 }
 

@@ -1,8 +1,8 @@
-use crate::cases::{answered, none};
 use lean_fixed::{Price, Shares, Symbol};
 use lean_items::CoarseRow;
 use std::alloc::Global;
 use std::test::Fail;
+use test_cases::cases::{check, none};
 use universe_rules::{UniverseRule, select};
 
 // top and the three minima; rows of symbol, close, volume and dollars
@@ -75,6 +75,5 @@ pub(crate) fn spelled(alloc: Global, symbols: &[Symbol]) -> Result<String, Fail>
 
 #[test]
 fn selects_by_dollars_and_symbol(rt: HostRuntime) -> Result<(), Fail> {
-    assert_eq!(rt; answered(rt.alloc(), CASES, selected)?.as_str(), CASES);
-    Ok(())
+    check(rt.alloc(), CASES, selected)
 }

@@ -1,12 +1,12 @@
-ghost use Rattle.std.specs.Prelude.{◌≡◌, length, true, All};
+ghost use Rattle.std.specs.Prelude.{◌≡◌, true, All};
 ghost use Rattle.bar_windows.specs.Kept.{IsLength};
 
-use crate::cases::answered;
 use bar_windows::{Func, WindowSpec, Windows};
 use lean_fixed::Price;
 use std::alloc::Global;
 use std::fmt::Write;
 use std::test::Fail;
+use test_cases::cases::check;
 
 // Functions with their lengths, and closes: the values after each close.
 const CASES: &str = "\
@@ -40,14 +40,6 @@ const LONG: &str = "\
 
 const FOUR: &str = "sma 1000, highest 1000, lowest 1000, change 1000";
 
-// Windows of which there are as many as there were specifications.
-#[derive(Drop)]
-struct Case {
-    windows: Windows,
-    count: usize,
-    ghost counted: { length windows.specs ≡ count },
-}
-
 fn is_length(length: u32) -> bool
     ensures { result ≡ true → IsLength length }
 {
@@ -77,7 +69,7 @@ fn spec_of(text: &str) -> Result<WindowSpec, Fail> {
     })
 }
 
-fn case_of(alloc: Global, text: &str) -> Result<Case, Fail> {
+fn windows_of(alloc: Global, text: &str) -> Result<Windows, Fail> {
     let mut specs = Vec::new(alloc);
     for words in text.split(", ") {
         specs.push(spec_of(words)?)?;
@@ -85,29 +77,24 @@ fn case_of(alloc: Global, text: &str) -> Result<Case, Fail> {
     if !are_lengths(&specs) {
         return Err(Fail::from("no length"));
     }
-    let windows = Windows::new(alloc, &specs)?;
-    Ok(Case {
-        windows,
-        count: specs.len(),
-    })
+    Ok(Windows::new(alloc, &specs)?)
 }
 
-// The case after one close more.
-fn pushed(case: Case, close: i64) -> Result<Case, Fail> {
-    let Case { mut windows, count } = case;
-    if close < 1 || close > 10_000_000_000 {
+fn push(windows: &mut Windows, close: i64) -> Result<(), Fail> {
+    let close = Price(close);
+    if !close.is_in_range() {
         return Err(Fail::from("no price"));
     }
-    windows.push(Price(close));
-    Ok(Case { windows, count })
+    windows.push(close);
+    Ok(())
 }
 
-fn write_values(text: &mut String, case: &Case) -> Result<(), Fail> {
-    for index in 0..case.count {
+fn write_values(text: &mut String, windows: &Windows) -> Result<(), Fail> {
+    for index in 0..windows.len() {
         if index > 0 {
             text.push(',')?;
         }
-        match case.windows.value(index) {
+        match windows.value(index) {
             Some(value) => write!(text, "{value}")?,
             None => text.push_str("none")?,
         }
@@ -117,21 +104,21 @@ fn write_values(text: &mut String, case: &Case) -> Result<(), Fail> {
 
 fn values(alloc: Global, input: &str) -> Result<String, Fail> {
     let (specs, closes) = input.split_once("; ").ok_or("no closes")?;
-    let mut case = case_of(alloc, specs)?;
+    let mut windows = windows_of(alloc, specs)?;
     let mut text = String::new(alloc);
     for close in closes.split(" ") {
         if !text.is_empty() {
             text.push(' ')?;
         }
-        case = pushed(case, close.parse::<i64>()?)?;
-        write_values(&mut text, &case)?;
+        push(&mut windows, close.parse::<i64>()?)?;
+        write_values(&mut text, &windows)?;
     }
     Ok(text)
 }
 
 fn long_values(alloc: Global, input: &str) -> Result<String, Fail> {
     let (count, course) = input.split_once(" ").ok_or("no course")?;
-    let mut case = case_of(alloc, FOUR)?;
+    let mut windows = windows_of(alloc, FOUR)?;
     for number in 0..count.parse::<u16>()? {
         let number = number as i64;
         let close = if course == "rising" {
@@ -139,21 +126,19 @@ fn long_values(alloc: Global, input: &str) -> Result<String, Fail> {
         } else {
             2000 - number
         };
-        case = pushed(case, close)?;
+        push(&mut windows, close)?;
     }
     let mut text = String::new(alloc);
-    write_values(&mut text, &case)?;
+    write_values(&mut text, &windows)?;
     Ok(text)
 }
 
 #[test]
 fn gives_values_over_the_last_closes(rt: HostRuntime) -> Result<(), Fail> {
-    assert_eq!(rt; answered(rt.alloc(), CASES, values)?.as_str(), CASES);
-    Ok(())
+    check(rt.alloc(), CASES, values)
 }
 
 #[test]
 fn gives_values_of_the_longest_windows(rt: HostRuntime) -> Result<(), Fail> {
-    assert_eq!(rt; answered(rt.alloc(), LONG, long_values)?.as_str(), LONG);
-    Ok(())
+    check(rt.alloc(), LONG, long_values)
 }

@@ -1,12 +1,12 @@
 //! The rows of coarse universe files: what each text is read as. A case is a line: the text of a row and, behind ` = `, its
 //! symbol, its close in 1/10000 dollar, its volume and its dollar volume, or `skipped`, or the word of the reason.
 
-use crate::cases::check;
 use coarse_csv::read_coarse;
 use lean_items::CoarseRow;
 use std::alloc::Global;
 use std::str;
 use std::test::Fail;
+use test_cases::cases::check;
 
 const ROWS: &str = "\
 SPY R735QTJ8XC9X,SPY,645.57,100,64557 = SPY 6455700 100 64557

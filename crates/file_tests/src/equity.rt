@@ -1,7 +1,6 @@
 //! The rows of equity files: what each text is read as, and what is written for a row. A case is a line: the text of a row
 //! and, behind ` = `, its start in minutes since 1970-01-01 00:00, its prices and its volume, or the word of the reason.
 
-use crate::cases::check;
 use equity_csv::laws::{dated_row_is_valid, minute_row_is_valid};
 use equity_csv::{Row, read_dated, read_minute, write_dated, write_minute};
 use lean_fixed::{Day, NoMemory, Resolution};
@@ -9,6 +8,7 @@ use lean_items::Reason;
 use std::alloc::{AllocError, Global};
 use std::str;
 use std::test::Fail;
+use test_cases::cases::check;
 
 // The worked lines, and what the format allows: a point and zeros, leading zeros, and further fields.
 // In each text `~`, `^` and `|` stand for LF, CR and tab.

@@ -1,55 +1,16 @@
 ghost use Rattle.std.specs.Prelude.{◌≡◌, ◌≤◌, true};
 ghost use Rattle.line_source.specs.Reader.{hand_of, number_of};
 
-use crate::cases::check;
 use lean_io::{Failed, Folder, Hand, MemFolder};
 use line_source::{Line, Lines};
 use std::alloc::{AllocError, Global};
 use std::collections::BTreeMap;
 use std::fmt::Write;
 use std::test::Fail;
+use test_cases::cases::check;
+use test_cases::cut::CutHand;
 
 const PATH: &str = "lines.csv";
-
-/// A hand that ends one read at a place of the file, and reads at most so many bytes at a time behind it.
-#[derive(Drop)]
-struct CutHand<H> {
-    inner: H,
-    place: usize,
-    most: usize,
-}
-
-impl<H: Hand> Hand for CutHand<H> {
-    ghost use Rattle.std.specs.Prelude.{None, []};
-
-    ghost files = { λ _. None };
-
-    ghost is_open = { λ h. H.is_open h.inner };
-
-    ghost rest = { λ _. [] };
-
-    ghost faults = { λ h. H.faults h.inner };
-
-    fn open_file(&mut self, path: &str) -> Result<bool, Failed> {
-        self.inner.open_file(path)
-    }
-
-    fn read(&mut self, into: &mut [u8]) -> Result<usize, Failed> {
-        let most = if self.place > 0 {
-            self.place
-        } else {
-            self.most
-        };
-        let n = most.min(into.len());
-        match self.inner.read(&mut into[..n]) {
-            Ok(moved) => {
-                self.place = self.place.saturating_sub(moved);
-                Ok(moved)
-            }
-            Err(Failed) => Err(Failed),
-        }
-    }
-}
 
 // So many of a byte, or one where the number is 0.
 fn push_run(bytes: &mut Vec<u8>, byte: u8, count: usize) -> Result<(), AllocError> {

@@ -1,8 +1,8 @@
-use crate::cases::{check, none};
 use exchange_hours::{Hours, Session};
 use lean_fixed::{Day, Moment, Resolution};
 use std::alloc::{AllocError, Global};
 use std::test::Fail;
+use test_cases::cases::{check, none};
 
 // The text with each ' as a ".
 fn quoted(alloc: Global, text: &str) -> Result<String, AllocError> {

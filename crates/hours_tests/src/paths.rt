@@ -1,7 +1,6 @@
 ghost use Rattle.std.specs.Prelude.{◌≤ℤ◌, pos, IfOk};
 ghost use Rattle.lean_fixed.specs.Calendar.{last_day};
 
-use crate::cases::{check, none};
 use crate::hours::usual_file;
 use exchange_hours::Hours;
 use feed_paths::{next_file, path_text};
@@ -10,6 +9,7 @@ use lean_fixed::{Day, Moment, Resolution, Symbol, Window};
 use lean_items::{FeedKey, FeedKind};
 use std::alloc::Global;
 use std::test::Fail;
+use test_cases::cases::{check, none};
 
 // Market hours on each day from Monday to Friday, but for Friday 1970-01-02.
 fn hours(alloc: Global) -> Result<Hours, Fail> {

@@ -1,14 +1,13 @@
 //! Feeds whose folder fails at a call: what is given before the failed call is a front of the whole list.
 
-use crate::cases::answered;
 use crate::filled::filled_text;
 use crate::folders::{Case, folder_of};
 use crate::rows::rows_text;
-use crate::slow::SlowFolder;
 use lean_io::MemFolder;
 use std::alloc::Global;
-use std::fmt::Write;
 use std::test::Fail;
+use test_cases::cases::check;
+use test_cases::cut::SlowFolder;
 
 // The files of 2013-10-07 and 2013-10-08 of each kind of feed.
 fn files_of(kind: &str) -> &str {
@@ -112,9 +111,8 @@ fn filled(alloc: Global, input: &str) -> Result<String, Fail> {
 
 #[test]
 fn a_failed_call_comes_behind_the_rows_before_it(rt: HostRuntime) -> Result<(), Fail> {
-    assert_eq!(rt; answered(rt.alloc(), ROWS, rows)?.as_str(), ROWS);
-    assert_eq!(rt; answered(rt.alloc(), FILLED, filled)?.as_str(), FILLED);
-    Ok(())
+    check(rt.alloc(), ROWS, rows)?;
+    check(rt.alloc(), FILLED, filled)
 }
 
 // Whether a text is the whole one, or a front of its items and then a failed read.

@@ -1,11 +1,9 @@
 //! Feeds with filled bars, by themselves and in a pool on one thread.
 ghost use Rattle.lean_fixed.specs.Ranges.{IsMoment, IsWindow};
 
-use crate::cases::answered;
-use crate::folders::{Case, folder_of};
+use crate::folders::{Case, files_of_case};
 use crate::said::items_text;
 use crate::serial::take_serial;
-use crate::slow::SlowFolder;
 use crate::taking::take_feed;
 use exchange_hours::Hours;
 use fill_forward::FilledFeed;
@@ -14,9 +12,10 @@ use lean_io::Folder;
 use lean_items::{FeedKey, Item};
 use row_feed::RowFeed;
 use std::alloc::Global;
-use std::fmt::Write;
 use std::sync::Arc;
 use std::test::Fail;
+use test_cases::cases::check;
+use test_cases::cut::SlowFolder;
 
 // All items of the filled feed of a key over the files of a folder.
 fn filled_of<F: Folder>(
@@ -65,10 +64,8 @@ usual coarse 07 07 0, coarse.06:X 1,SPY,6.45,7,9; = 07.0000 SPY 64500 7 9, end
 ";
 
 fn filled(alloc: Global, input: &str) -> Result<String, Fail> {
-    let (case, files) = input.split_once(", ").ok_or("no files")?;
-    let case = Case::read(alloc, case)?;
+    let (case, mut folder) = files_of_case(alloc, input)?;
     let (key, window) = (case.key(true), case.window());
-    let mut folder = folder_of(alloc, files, "none", 0)?;
     let items = filled_of(alloc, &mut folder, key, window, case.hours)?;
     Ok(items_text(alloc, &items)?)
 }
@@ -85,24 +82,19 @@ pub(crate) fn filled_text<F: Folder>(
 }
 
 fn serial(alloc: Global, input: &str) -> Result<String, Fail> {
-    let (case, files) = input.split_once(", ").ok_or("no files")?;
-    let case = Case::read(alloc, case)?;
-    let mut folder = folder_of(alloc, files, "none", 0)?;
+    let (case, mut folder) = files_of_case(alloc, input)?;
     filled_text(alloc, &case, &mut folder)
 }
 
 fn slow(alloc: Global, input: &str) -> Result<String, Fail> {
-    let (case, files) = input.split_once(", ").ok_or("no files")?;
-    let case = Case::read(alloc, case)?;
-    let inner = folder_of(alloc, files, "none", 0)?;
+    let (case, inner) = files_of_case(alloc, input)?;
     let mut folder = SlowFolder { inner };
     filled_text(alloc, &case, &mut folder)
 }
 
 #[test]
 fn fills_between_the_rows(rt: HostRuntime) -> Result<(), Fail> {
-    assert_eq!(rt; answered(rt.alloc(), FILLED, filled)?.as_str(), FILLED);
-    assert_eq!(rt; answered(rt.alloc(), FILLED, serial)?.as_str(), FILLED);
-    assert_eq!(rt; answered(rt.alloc(), FILLED, slow)?.as_str(), FILLED);
-    Ok(())
+    check(rt.alloc(), FILLED, filled)?;
+    check(rt.alloc(), FILLED, serial)?;
+    check(rt.alloc(), FILLED, slow)
 }

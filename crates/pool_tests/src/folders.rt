@@ -192,3 +192,11 @@ pub(crate) fn folder_of(
     calls.push((path_of(alloc, fails)?, call))?;
     Ok(MemFolder::new(alloc, map, calls)?)
 }
+
+/// A case and, behind a comma, the folder of its files, of which none fails.
+pub(crate) fn files_of_case(alloc: Global, input: &str) -> Result<(Case, MemFolder), Fail> {
+    let (case, files) = input.split_once(", ").ok_or("no files")?;
+    let case = Case::read(alloc, case)?;
+    let folder = folder_of(alloc, files, "none", 0)?;
+    Ok((case, folder))
+}

@@ -3,8 +3,6 @@
 #![tactic(auto)]
 
 #[cfg(test)]
-mod cases;
-#[cfg(test)]
 mod failing;
 #[cfg(test)]
 mod filled;
@@ -25,8 +23,6 @@ mod script;
 #[cfg(test)]
 mod scripts;
 mod serial;
-#[cfg(test)]
-mod slow;
 mod taking;
 
 pub use mem_feed::MemFeed;

@@ -3,7 +3,6 @@ ghost use Rattle.std.specs.Prelude.{◌≡◌};
 ghost use Rattle.lean_fixed.specs.Ranges.{IsMoment};
 
 use crate::MemPool;
-use crate::cases::answered;
 use crate::folders::{Case, folder_of, key_of, kind_of};
 use crate::merging::{begin, leave};
 use crate::said::arrivals_text;
@@ -13,8 +12,8 @@ use frontier_sync::Heads;
 use lean_fixed::NoMemory;
 use lean_items::{Arrival, FeedKey, FeedKind, FeedNo, Item, Pool};
 use std::alloc::Global;
-use std::fmt::Write;
 use std::test::Fail;
+use test_cases::cases::check;
 
 // All that two feeds give, up to the end or to the first malformed line or failed read, which is told last. One feed leaves
 // behind the first moment.
@@ -100,7 +99,6 @@ fn files(alloc: Global, files: &str) -> Result<String, Fail> {
 
 #[test]
 fn merges_by_ends_and_by_feeds(rt: HostRuntime) -> Result<(), Fail> {
-    assert_eq!(rt; answered(rt.alloc(), SCRIPTS, scripts)?.as_str(), SCRIPTS);
-    assert_eq!(rt; answered(rt.alloc(), FILES, files)?.as_str(), FILES);
-    Ok(())
+    check(rt.alloc(), SCRIPTS, scripts)?;
+    check(rt.alloc(), FILES, files)
 }

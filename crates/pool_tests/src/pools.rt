@@ -3,7 +3,6 @@
 ghost use Rattle.std.specs.Prelude.{◌≡◌};
 ghost use Rattle.lean_fixed.specs.Ranges.{IsMoment};
 
-use crate::cases::answered;
 use crate::folders::{Case, folder_of, key_of, kind_of};
 use crate::said::items_text;
 use crate::scripts::script_of;
@@ -13,8 +12,8 @@ use feed_pool::SerialPool;
 use lean_fixed::NoMemory;
 use lean_items::{FeedKey, FeedKind, FeedNo, Item, Pool};
 use std::alloc::Global;
-use std::fmt::Write;
 use std::test::Fail;
+use test_cases::cases::check;
 
 // What a feed in memory gives, and then what the feeds of a pool in memory give from the first and from the second item on.
 const SCRIPTS: &str = "\
@@ -57,8 +56,7 @@ fn given(alloc: Global, words: &str) -> Result<String, Fail> {
 
 #[test]
 fn takes_the_items_of_scripts(rt: HostRuntime) -> Result<(), Fail> {
-    assert_eq!(rt; answered(rt.alloc(), SCRIPTS, given)?.as_str(), SCRIPTS);
-    Ok(())
+    check(rt.alloc(), SCRIPTS, given)
 }
 
 // Takes an item of each of two feeds, removes the first one twice and one that was never added, and takes an item of a third

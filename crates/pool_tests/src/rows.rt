@@ -3,19 +3,18 @@ ghost use Rattle.std.specs.Prelude.{◌≡◌, false};
 ghost use Rattle.lean_fixed.specs.Ranges.{IsMoment, IsWindow};
 ghost use Rattle.row_feed.specs.Feed.{has_ended};
 
-use crate::cases::answered;
-use crate::folders::{Case, folder_of};
+use crate::folders::{Case, files_of_case};
 use crate::said::items_text;
-use crate::slow::SlowFolder;
 use exchange_hours::Hours;
 use lean_fixed::{NoMemory, Window};
 use lean_io::{Folder, Hand};
 use lean_items::{FeedKey, Item};
 use row_feed::RowFeed;
 use std::alloc::Global;
-use std::fmt::Write;
 use std::sync::Arc;
 use std::test::Fail;
+use test_cases::cases::check;
+use test_cases::cut::SlowFolder;
 
 // All items of a feed of rows.
 fn take_rows<H: Hand>(alloc: Global, rows: &mut RowFeed<H>) -> Result<Vec<Item>, NoMemory>
@@ -101,23 +100,18 @@ pub(crate) fn rows_text<F: Folder>(
 }
 
 fn rows(alloc: Global, input: &str) -> Result<String, Fail> {
-    let (case, files) = input.split_once(", ").ok_or("no files")?;
-    let case = Case::read(alloc, case)?;
-    let mut folder = folder_of(alloc, files, "none", 0)?;
+    let (case, mut folder) = files_of_case(alloc, input)?;
     rows_text(alloc, &case, &mut folder)
 }
 
 fn slow_rows(alloc: Global, input: &str) -> Result<String, Fail> {
-    let (case, files) = input.split_once(", ").ok_or("no files")?;
-    let case = Case::read(alloc, case)?;
-    let inner = folder_of(alloc, files, "none", 0)?;
+    let (case, inner) = files_of_case(alloc, input)?;
     let mut folder = SlowFolder { inner };
     rows_text(alloc, &case, &mut folder)
 }
 
 #[test]
 fn gives_kept_rows_and_the_last_item(rt: HostRuntime) -> Result<(), Fail> {
-    assert_eq!(rt; answered(rt.alloc(), ROWS, rows)?.as_str(), ROWS);
-    assert_eq!(rt; answered(rt.alloc(), ROWS, slow_rows)?.as_str(), ROWS);
-    Ok(())
+    check(rt.alloc(), ROWS, rows)?;
+    check(rt.alloc(), ROWS, slow_rows)
 }

@@ -1,8 +1,6 @@
 pub mod Runs
-pub mod Fronts
 pub mod Scanned
 pub mod Chains
-pub mod Places
 pub mod Numbers
-pub mod Lengths
-pub mod Typed
+pub mod OverCloses
+pub mod Added

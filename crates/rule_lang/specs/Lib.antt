@@ -1,8 +1,9 @@
 pub mod Tokens
 pub mod Tree
+pub mod Parts
 pub mod Grammar
-pub mod Kinds
 pub mod Reading
 pub mod Values
+pub mod Closes
 pub mod Nodes
 pub mod Held

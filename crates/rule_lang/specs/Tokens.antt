@@ -7,6 +7,8 @@ use Rattle.lean_fixed.specs.Digits.{is_digit, value_of}
 use Rattle.rule_lang.specs.declared.fault.RuleError.{RuleError}
 use Rattle.rule_lang.specs.declared.fault.RuleError.TheVariants as error
 use Rattle.rule_lang.specs.declared.token.Name.TheVariants as name
+use Rattle.rule_lang.specs.declared.token.Comparison.TheVariants.{Less, AtMost, Greater, AtLeast, Equal, Unequal}
+use Rattle.rule_lang.specs.declared.token.Arithmetic.TheVariants.{Plus, Minus, Times, Over}
 use Rattle.rule_lang.specs.declared.token.Op.TheVariants as op
 use Rattle.rule_lang.specs.declared.token.Kind.{Kind}
 use Rattle.rule_lang.specs.declared.token.Kind.TheVariants as kind
@@ -51,16 +53,16 @@ words =
 -- its signs, the longer before those that they begin with
 abbrev pub signs : List (List ℕ × Kind)
 signs =
-    (codes "<=", kind.Operator op.AtMost)
-    ∷ (codes "<", kind.Operator op.Less)
-    ∷ (codes ">=", kind.Operator op.AtLeast)
-    ∷ (codes ">", kind.Operator op.Greater)
-    ∷ (codes "==", kind.Operator op.Equal)
-    ∷ (codes "!=", kind.Operator op.Unequal)
-    ∷ (codes "+", kind.Operator op.Plus)
-    ∷ (codes "-", kind.Operator op.Minus)
-    ∷ (codes "*", kind.Operator op.Times)
-    ∷ (codes "/", kind.Operator op.Over)
+    (codes "<=", kind.Operator (op.Compare AtMost))
+    ∷ (codes "<", kind.Operator (op.Compare Less))
+    ∷ (codes ">=", kind.Operator (op.Compare AtLeast))
+    ∷ (codes ">", kind.Operator (op.Compare Greater))
+    ∷ (codes "==", kind.Operator (op.Compare Equal))
+    ∷ (codes "!=", kind.Operator (op.Compare Unequal))
+    ∷ (codes "+", kind.Operator (op.Compute Plus))
+    ∷ (codes "-", kind.Operator (op.Compute Minus))
+    ∷ (codes "*", kind.Operator (op.Compute Times))
+    ∷ (codes "/", kind.Operator (op.Compute Over))
     ∷ (codes "(", kind.Opening)
     ∷ (codes ")", kind.Closing)
     ∷ []
@@ -130,7 +132,7 @@ tokens text = tokens_from 0 0 text
 
 -- what stands at the front of a text is within it
 abbrev pub IsWithin : Front → ℕ → Type 0
-IsWithin (Lexeme sort size) most = (1 ≤ size) × (size ≤ most)
+IsWithin (Lexeme sort size) most = size ≤ most
 IsWithin _ most = Unit {0}
 
 -- a table of texts, as the code holds it

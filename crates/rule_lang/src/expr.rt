@@ -1,13 +1,11 @@
 ghost use Rattle.std.specs.Prelude.{◌≡◌, ◌≤◌, length, All};
 ghost use Rattle.bar_windows.specs.Kept.{IsLength};
 ghost use Rattle.rule_lang.specs.Tree.{windows_of};
-ghost use Rattle.rule_lang.specs.Nodes.{tree};
 ghost use Rattle.rule_lang.specs.Reading.{reading, Gives};
 ghost use Rattle.rule_lang.specs.Values.{number_in, truth_in};
 
 use crate::grammar::Reader;
-use crate::kinds::typed;
-use crate::node::Node;
+use crate::node::{Tree, typed};
 use crate::scan::tokens;
 use crate::value::{number, truth};
 use crate::{RuleFault, View, Want};
@@ -18,26 +16,26 @@ use std::marker::Model;
 /// An expression that was read. Contracts see its tree.
 #[derive(Drop)]
 pub struct Expr {
-    node: Node,
+    tree: Tree,
     windows: Vec<WindowSpec>,
 }
 
 impl Model for Expr {
-    ghost use Rattle.std.specs.Prelude.{◌≡◌};
+    ghost use Rattle.std.specs.Prelude.{[]};
     ghost use Rattle.std.specs.Coded.{code_by};
-    ghost use Rattle.rule_lang.specs.contracts.node.Node as the_node;
-    ghost use Rattle.rule_lang.specs.declared.node.Node as held;
-    ghost use Rattle.rule_lang.specs.Tree.{Tree, windows_of};
-    ghost use Rattle.rule_lang.specs.Nodes.{tree, IsNumbered};
-    ghost use Rattle.rule_lang.specs.Held.{node_of, tree-node_of};
+    ghost use Rattle.rule_lang.specs.contracts.node.Tree as the_tree;
+    ghost use Rattle.rule_lang.specs.declared.node.Tree as held_tree;
+    ghost use Rattle.rule_lang.specs.Tree.{Tree};
+    ghost use Rattle.rule_lang.specs.Nodes.{tree_of, AddsTree};
+    ghost use Rattle.rule_lang.specs.Held.{held, tree_is};
 
     ghost Value = { Tree };
 
-    ghost coded = { code_by held.Node the_node.the_row.coded node_of tree tree-node_of };
+    ghost coded = { code_by held_tree.Tree the_tree.the_row.coded held tree_of tree_is };
 
-    ghost view = { λ e. tree e.node };
+    ghost view = { λ e. tree_of e.tree };
 
-    ghost invariant = { λ e. IsNumbered e.node 0 × (e.windows.items ≡ windows_of (tree e.node)) };
+    ghost invariant = { λ e. AddsTree e.tree [] e.windows.items };
 }
 
 impl Expr {
@@ -63,10 +61,10 @@ impl Expr {
             rest: &tokens,
             windows: Vec::new(alloc),
         };
-        let node = reader.whole()?;
-        typed(&node, want)?;
+        let part = reader.whole()?;
+        let tree = typed(part, want)?;
         let windows = reader.windows;
-        Ok(Expr { node, windows })
+        Ok(Expr { tree, windows })
     }
 
     /// The windows over closes that the expression names, as they stand in its text. One that is named twice is there
@@ -84,7 +82,10 @@ impl Expr {
     pub fn number(&self, view: &View) -> Option<i128>
         ensures { result ≡ number_in view.now self.now }
     {
-        number(&self.node, view)
+        match &self.tree {
+            Tree::Condition(_) => None,
+            Tree::Amount(amount) => number(amount, view),
+        }
     }
 
     /// Whether the expression is true in a view. A comparison with an operand that has no value is false, and so is an
@@ -92,6 +93,9 @@ impl Expr {
     pub fn truth(&self, view: &View) -> bool
         ensures { result ≡ truth_in view.now self.now }
     {
-        truth(&self.node, view)
+        match &self.tree {
+            Tree::Condition(condition) => truth(condition, view),
+            Tree::Amount(_) => false,
+        }
     }
 }

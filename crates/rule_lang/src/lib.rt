@@ -1,12 +1,11 @@
 //! The language in which a strategy says when it trades, how much and at what price. Reading a text gives the tree of its
-//! grammar or the first fault, exactly; the value of an expression is exact decimal arithmetic that neither overflows nor
-//! divides by zero.
+//! grammar or the first fault, exactly; the value of an expression is that of its definition: decimal arithmetic whose
+//! products and quotients are cut toward zero, with no value where it would overflow or divide by zero.
 #![tactic(auto)]
 
 mod expr;
 mod fault;
 mod grammar;
-mod kinds;
 pub mod laws;
 mod node;
 mod scan;

@@ -2,7 +2,7 @@ use crate::RuleError;
 use bar_windows::Func;
 
 /// A number that an expression may name.
-#[derive(Clone, Copy, Debug, PartialEq, Eq)]
+#[derive(Clone, Copy)]
 pub enum Name {
     Open,
     High,
@@ -17,25 +17,37 @@ pub enum Name {
     Time,
 }
 
-/// An operator between two operands; `Minus` is also the sign before one.
-#[derive(Clone, Copy, Debug, PartialEq, Eq)]
-pub enum Op {
-    Or,
-    And,
+/// A comparison of two numbers.
+#[derive(Clone, Copy)]
+pub enum Comparison {
     Less,
     AtMost,
     Greater,
     AtLeast,
     Equal,
     Unequal,
+}
+
+/// An operation on two numbers; `Minus` is also the sign before one.
+#[derive(Clone, Copy)]
+pub enum Arithmetic {
     Plus,
     Minus,
     Times,
     Over,
 }
 
+/// An operator between two operands.
+#[derive(Clone, Copy)]
+pub enum Op {
+    Or,
+    And,
+    Compare(Comparison),
+    Compute(Arithmetic),
+}
+
 /// What a token is.
-#[derive(Clone, Copy, Debug, PartialEq, Eq)]
+#[derive(Clone, Copy)]
 pub enum Kind {
     /// A number without a point.
     Whole(u64),
@@ -65,7 +77,7 @@ pub enum Front {
     Blank,
     /// A token and the number of its bytes.
     Lexeme(Kind, usize),
-    /// No token begins here, or a number has too many digits.
+    /// No token begins here, or a number has too many digits or none behind its point.
     Bad(RuleError),
 }
 
@@ -79,17 +91,17 @@ pub enum Level {
     Term,
 }
 
-/// What stands inside a level that a token opens: anything behind `(`, a truth behind `not`, a factor behind the sign `-`.
+/// What opens a level: a bracket, `not`, or the sign `-`.
 #[derive(Clone, Copy)]
-pub enum Inner {
-    Any,
-    Denial,
-    Signed,
+pub enum Context {
+    Brackets,
+    Not,
+    Minus,
 }
 
-/// A token that a rule of the grammar wants at a place.
+/// A bracket, or the end of the text, that a rule of the grammar wants at a place.
 #[derive(Clone, Copy)]
-pub enum Mark {
+pub enum Delimiter {
     Opening,
     Closing,
     End,

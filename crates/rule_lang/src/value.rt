@@ -1,11 +1,11 @@
-//! The value of an expression in a view. It takes no memory and looks at each part of the tree at most once.
+//! The value of an expression in a view. It takes no memory and looks at each operand at most once.
 
 ghost use Rattle.std.specs.Prelude.{◌≡◌, ℕ, drop, neg_ℤ};
-ghost use Rattle.rule_lang.specs.Nodes.{tree, IsNumbered};
+ghost use Rattle.rule_lang.specs.Nodes.{amount_of, condition_of, IsPlaced, ArePlaced};
 ghost use Rattle.rule_lang.specs.Values as spec;
 
-use crate::node::Node;
-use crate::token::{Name, Op};
+use crate::node::{Amount, Condition};
+use crate::token::{Arithmetic, Comparison, Name};
 use crate::view::{View, WindowValues};
 
 /// No operation has a value beyond this, either way: 10^38.
@@ -17,19 +17,18 @@ const UNITS: i128 = 10_000;
 /// The minutes in a day.
 const DAY: i64 = 1_440;
 
-/// The number that a tree is, whose windows are numbered on from any place.
+/// The number that an amount is, whose windows have the places from any number on.
 #[tactic(auto, unfolding(crate::specs::Values::number_of))]
-pub fn number(node: &Node, view: &View) -> Option<i128>
-    ensures { (from : ℕ) → IsNumbered node.now from
-        → result ≡ spec.number_of view.now (drop from view.now.windows) (tree node.now) }
+pub fn number(amount: &Amount, view: &View) -> Option<i128>
+    ensures { (from : ℕ) → IsPlaced amount.now from
+        → result ≡ spec.number_of view.now (drop from view.now.windows) (amount_of amount.now) }
 {
-    match node {
-        Node::Number(units) => Some(*units),
-        Node::Named(name) => Some(named(*name, view)),
-        Node::Windowed(_, place) => window(&view.windows, *place),
-        Node::Denied(_, _) => None,
-        Node::Negated(_, inner) => negated(number(inner, view)?),
-        Node::Binary(op, _, left, right) => computed(
+    match amount {
+        Amount::Number(units) => Some(*units),
+        Amount::Named(name) => Some(named(*name, view)),
+        Amount::Window(_, place) => window(&view.windows, *place),
+        Amount::Minus(inner) => minus(number(inner, view)?),
+        Amount::Arithmetic(op, left, right) => computed(
             *op,
             number(left, view)?,
             number(right, view)?,
@@ -37,18 +36,21 @@ pub fn number(node: &Node, view: &View) -> Option<i128>
     }
 }
 
-/// The truth that a tree is, whose windows are numbered on from any place.
+/// The truth of a condition, whose windows have the places from any number on.
 #[tactic(auto, unfolding(crate::specs::Values::truth_of))]
-pub fn truth(node: &Node, view: &View) -> bool
-    ensures { (from : ℕ) → IsNumbered node.now from
-        → result ≡ spec.truth_of view.now (drop from view.now.windows) (tree node.now) }
+pub fn truth(condition: &Condition, view: &View) -> bool
+    ensures { (from : ℕ) → ArePlaced condition.now from
+        → result ≡ spec.truth_of view.now (drop from view.now.windows) (condition_of condition.now) }
 {
-    match node {
-        Node::Denied(_, inner) => !truth(inner, view),
-        Node::Binary(Op::Or, _, left, right) => truth(left, view) || truth(right, view),
-        Node::Binary(Op::And, _, left, right) => truth(left, view) && truth(right, view),
-        Node::Binary(op, _, left, right) => compared(*op, number(left, view), number(right, view)),
-        _ => false,
+    match condition {
+        Condition::Not(inner) => !truth(inner, view),
+        Condition::And(left, right) => truth(left, view) && truth(right, view),
+        Condition::Or(left, right) => truth(left, view) || truth(right, view),
+        Condition::Compare(op, left, right) => compared(
+            *op,
+            number(left, view),
+            number(right, view),
+        ),
     }
 }
 
@@ -87,21 +89,20 @@ fn within(number: i128) -> Option<i128>
     }
 }
 
-fn negated(number: i128) -> Option<i128>
+fn minus(number: i128) -> Option<i128>
     ensures { result ≡ spec.within (neg_ℤ number) }
 {
     within(number.checked_neg()?)
 }
 
-fn computed(op: Op, left: i128, right: i128) -> Option<i128>
+fn computed(op: Arithmetic, left: i128, right: i128) -> Option<i128>
     ensures { result ≡ spec.computed op left right }
 {
     match op {
-        Op::Plus => within(left.checked_add(right)?),
-        Op::Minus => within(left.checked_sub(right)?),
-        Op::Times => quotient(left.checked_mul(right)?, UNITS),
-        Op::Over => quotient(left.checked_mul(UNITS)?, right),
-        _ => None,
+        Arithmetic::Plus => within(left.checked_add(right)?),
+        Arithmetic::Minus => within(left.checked_sub(right)?),
+        Arithmetic::Times => quotient(left.checked_mul(right)?, UNITS),
+        Arithmetic::Over => quotient(left.checked_mul(UNITS)?, right),
     }
 }
 
@@ -114,7 +115,7 @@ fn quotient(number: i128, divisor: i128) -> Option<i128>
     Some(within(number)? / divisor)
 }
 
-fn compared(op: Op, left: Option<i128>, right: Option<i128>) -> bool
+fn compared(op: Comparison, left: Option<i128>, right: Option<i128>) -> bool
     ensures { result ≡ spec.compared op left right }
 {
     match (left, right) {
@@ -123,16 +124,15 @@ fn compared(op: Op, left: Option<i128>, right: Option<i128>) -> bool
     }
 }
 
-fn holds(op: Op, left: i128, right: i128) -> bool
+fn holds(op: Comparison, left: i128, right: i128) -> bool
     ensures { result ≡ spec.holds op left right }
 {
     match op {
-        Op::Less => left < right,
-        Op::AtMost => left <= right,
-        Op::Greater => left > right,
-        Op::AtLeast => left >= right,
-        Op::Equal => left == right,
-        Op::Unequal => left != right,
-        Op::Or | Op::And | Op::Plus | Op::Minus | Op::Times | Op::Over => false,
+        Comparison::Less => left < right,
+        Comparison::AtMost => left <= right,
+        Comparison::Greater => left > right,
+        Comparison::AtLeast => left >= right,
+        Comparison::Equal => left == right,
+        Comparison::Unequal => left != right,
     }
 }

@@ -6,24 +6,25 @@ ghost use Rattle.bar_windows.specs.declared.spec.WindowSpec.{WindowSpec};
 ghost use Rattle.rule_lang.specs.declared.fault.Want.TheVariants.{Truth, Number};
 ghost use Rattle.rule_lang.specs.declared.fault.RuleError.TheVariants as error;
 ghost use Rattle.rule_lang.specs.declared.token.Name.TheVariants as name;
-ghost use Rattle.rule_lang.specs.declared.token.Op.TheVariants as op;
+ghost use Rattle.rule_lang.specs.declared.token.Arithmetic.TheVariants.{Plus, Minus, Times, Over};
+ghost use Rattle.rule_lang.specs.declared.token.Comparison.TheVariants.{Less, Greater, Equal, Unequal};
 ghost use Rattle.rule_lang.specs.declared.view.View.{View};
-ghost use Rattle.rule_lang.specs.Tree.{number, named, window, denied, negated, binary};
+ghost use Rattle.rule_lang.specs.Tree.{number, named, window, minus, arithmetic, not, and, or, compare, condition, amount};
 ghost use Rattle.rule_lang.specs.Reading.{reading};
 ghost use Rattle.rule_lang.specs.Values.{computed, number_of, truth_of};
 
 // `1 - 2 - 3` takes the first two as one operand, `*` binds closer than `+`, and comparisons closer than `and`.
 fn worked_trees()
-    ensures left { reading (codes "1 - 2 - 3") Number ≡ Ok (binary op.Minus 6 (binary op.Minus 2
-        (number (pos 10000)) (number (pos 20000))) (number (pos 30000))) }
-    ensures closer { reading (codes "1+2.5*-cash") Number ≡ Ok (binary op.Plus 1 (number (pos 10000))
-        (binary op.Times 5 (number (pos 25000)) (negated 6 (named name.Cash)))) }
-    ensures rule { reading (codes "close > sma(4) and position == 0") Truth ≡ Ok (binary op.And 15
-        (binary op.Greater 6 (named name.Close) (window (record { func = func.Sma; length = 4 })))
-        (binary op.Equal 28 (named name.Position) (number (pos 0)))) }
-    ensures denial { reading (codes "not 1<2 or 3<4") Truth ≡ Ok (binary op.Or 8 (denied 0 (binary op.Less 5
-        (number (pos 10000)) (number (pos 20000))))
-        (binary op.Less 12 (number (pos 30000)) (number (pos 40000)))) }
+    ensures left { reading (codes "1 - 2 - 3") Number ≡ Ok (amount (arithmetic Minus (arithmetic Minus
+        (number (pos 10000)) (number (pos 20000))) (number (pos 30000)))) }
+    ensures closer { reading (codes "1+2.5*-cash") Number ≡ Ok (amount (arithmetic Plus (number (pos 10000))
+        (arithmetic Times (number (pos 25000)) (minus (named name.Cash))))) }
+    ensures rule { reading (codes "close > sma(4) and position == 0") Truth ≡ Ok (condition (and
+        (compare Greater (named name.Close) (window (record { func = func.Sma; length = 4 })))
+        (compare Equal (named name.Position) (number (pos 0))))) }
+    ensures denial { reading (codes "not 1<2 or 3<4") Truth ≡ Ok (condition (or
+        (not (compare Less (number (pos 10000)) (number (pos 20000))))
+        (compare Less (number (pos 30000)) (number (pos 40000))))) }
 {}
 
 // Faults of each round, and of an earlier round before those of a later one.
@@ -39,11 +40,11 @@ fn worked_faults()
 
 // Products and quotients are cut toward zero both ways, and a window's value is the one at its place in the text.
 fn worked_values()
-    ensures product { computed op.Times (negsuc 14998) (pos 15000) ≡ Some (negsuc 22497) }
-    ensures quotient { computed op.Over (negsuc 9999) (pos 30000) ≡ Some (negsuc 3332) }
-    ensures zero { computed op.Over (pos 10000) (pos 0) ≡ None }
+    ensures product { computed Times (negsuc 14998) (pos 15000) ≡ Some (negsuc 22497) }
+    ensures quotient { computed Over (negsuc 9999) (pos 30000) ≡ Some (negsuc 3332) }
+    ensures zero { computed Over (pos 10000) (pos 0) ≡ None }
     ensures place { (view : View) (a b : WindowSpec) → number_of view (Some (pos 5) ∷ Some (pos 7) ∷ [])
-        (binary op.Minus 7 (window a) (window b)) ≡ Some (negsuc 1) }
+        (arithmetic Minus (window a) (window b)) ≡ Some (negsuc 1) }
     ensures missing { (view : View) (a b : WindowSpec) → truth_of view (Some (pos 5) ∷ None ∷ [])
-        (binary op.Unequal 7 (window a) (window b)) ≡ false }
+        (compare Unequal (window a) (window b)) ≡ false }
 {}

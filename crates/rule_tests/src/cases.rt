@@ -1,23 +1,6 @@
 use rule_lang::{Expr, RuleError, RuleFault, Want};
 use std::alloc::Global;
-use std::fmt::Write;
 use std::test::Fail;
-
-// The texts of some cases, each with what a call answers, as lines `text = answer`.
-pub fn answered<F: Fn(Global, &str) -> Result<String, Fail>>(
-    alloc: Global,
-    cases: &str,
-    answer: F,
-) -> Result<String, Fail>
-    requires { F.IsAlwaysCallable answer }
-{
-    let mut said = String::new(alloc);
-    for case in cases.lines() {
-        let (text, _) = case.split_once(" = ").ok_or("no answer")?;
-        writeln!(said, "{text} = {}", answer(alloc, text)?)?;
-    }
-    Ok(said)
-}
 
 // The expression that a text of the table is.
 pub fn read(alloc: Global, text: &str, want: Want) -> Result<Result<Expr, RuleFault>, Fail> {

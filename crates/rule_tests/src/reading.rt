@@ -1,7 +1,8 @@
-use crate::cases::{answered, fault_text, read};
+use crate::cases::{fault_text, read};
 use rule_lang::Want;
 use std::alloc::Global;
 use std::test::Fail;
+use test_cases::cases::check;
 
 fn fault(alloc: Global, text: &str, want: Want) -> Result<String, Fail> {
     match read(alloc, text, want)? {
@@ -142,11 +143,7 @@ sma(3) = type 0
 
 #[test]
 fn reads_truths(rt: HostRuntime) -> Result<(), Fail> {
-    assert_eq!(rt;
-        answered(rt.alloc(), TRUTHS, fault_of_truth)?.as_str(),
-        TRUTHS
-    );
-    Ok(())
+    check(rt.alloc(), TRUTHS, fault_of_truth)
 }
 
 const NUMBERS: &str = "\
@@ -182,9 +179,5 @@ clos = token 0
 
 #[test]
 fn reads_numbers(rt: HostRuntime) -> Result<(), Fail> {
-    assert_eq!(rt;
-        answered(rt.alloc(), NUMBERS, fault_of_number)?.as_str(),
-        NUMBERS
-    );
-    Ok(())
+    check(rt.alloc(), NUMBERS, fault_of_number)
 }

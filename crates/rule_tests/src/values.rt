@@ -1,6 +1,6 @@
 ghost use Rattle.std.specs.Prelude.{◌≡◌, ◌≤◌, length};
 
-use crate::cases::{answered, fault_text, read};
+use crate::cases::{fault_text, read};
 use bar_windows::{Func, WindowSpec, Windows};
 use lean_fixed::{Moment, Money, Price, Shares};
 use lean_items::Bar;
@@ -8,6 +8,7 @@ use rule_lang::{Expr, View, Want, WindowValues};
 use std::alloc::{AllocError, Global};
 use std::fmt::Write;
 use std::test::Fail;
+use test_cases::cases::check;
 
 // A view at 09:30 of 2013-10-07, in which the windows have these values.
 fn view(windows: WindowValues) -> View {
@@ -177,8 +178,7 @@ change(3) + sma(1) = none
 
 #[test]
 fn gives_numbers(rt: HostRuntime) -> Result<(), Fail> {
-    assert_eq!(rt; answered(rt.alloc(), NUMBERS, value_of)?.as_str(), NUMBERS);
-    Ok(())
+    check(rt.alloc(), NUMBERS, value_of)
 }
 
 const TRUTHS: &str = "\
@@ -243,8 +243,7 @@ change(4) < 1 and 1 < 2 = false
 
 #[test]
 fn gives_truths(rt: HostRuntime) -> Result<(), Fail> {
-    assert_eq!(rt; answered(rt.alloc(), TRUTHS, truth_of)?.as_str(), TRUTHS);
-    Ok(())
+    check(rt.alloc(), TRUTHS, truth_of)
 }
 
 // Hears the closes 100 to 600.
@@ -295,11 +294,7 @@ sma(2) - lowest(2) + highest(1) = 650
 
 #[test]
 fn gives_values_of_windows(rt: HostRuntime) -> Result<(), Fail> {
-    assert_eq!(rt;
-        answered(rt.alloc(), CLOSES, value_after_closes)?.as_str(),
-        CLOSES
-    );
-    Ok(())
+    check(rt.alloc(), CLOSES, value_after_closes)
 }
 
 #[test]
@@ -341,11 +336,7 @@ sma(4) > sma(12) and (change(3) == -lowest(1000) or not highest(1) < sma(4)) = s
 
 #[test]
 fn names_windows(rt: HostRuntime) -> Result<(), Fail> {
-    assert_eq!(rt;
-        answered(rt.alloc(), WINDOWS, windows_of)?.as_str(),
-        WINDOWS
-    );
-    Ok(())
+    check(rt.alloc(), WINDOWS, windows_of)
 }
 
 // 500 ones and the signs between them, 999 bytes, and a blank.

@@ -2,6 +2,7 @@
 //! that are selected are those of the definition, in its order.
 #![tactic(auto)]
 
+pub mod laws;
 mod ranks;
 mod rule;
 mod selection;

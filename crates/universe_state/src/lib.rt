@@ -4,6 +4,7 @@
 
 mod additions;
 mod found;
+pub mod laws;
 mod marks;
 mod member;
 mod refusal;

@@ -48,7 +48,15 @@ impl Universe {
         }
     }
 
-    /// Makes a security that the plan lists active, with its feed. It is never marked.
+    /// How many securities are active.
+    pub fn len(&self) -> usize
+        ensures { result ≡ length self.now }
+    {
+        self.members.len()
+    }
+
+    /// Makes a security that the plan lists active, with its feed. No choice marks it, unless a security of its symbol joins
+    /// in its place.
     pub fn list(&mut self, symbol: Symbol, feed: FeedNo) -> Result<(), NoMemory>
         ensures ok { OnOk result (self.new ≡ with_security
             (record { symbol = symbol; feed = feed; listed = true; marked = false }) self.old) }

@@ -6,4 +6,4 @@ pub returns-in-Candidates : goal.returns-in-Candidates
 returns-in-Candidates c =
     c.extreme.ensures
     ∙ extreme_value c.args.self.now.spec.func c.args.self.now.spec.length c.args.closes.now.items c.in-Candidates.candidates
-    c.requires.heard.length.0 (sym c.in-Candidates.is ∙ c.requires.heard.kept)
+    c.requires.length.0 (sym c.in-Candidates.is ∙ c.requires.kept)
