@@ -1,8 +1,7 @@
 //! Feeds whose folder fails at a call: what is given before the failed call is a front of the whole list.
 
-use crate::filled::filled_text;
 use crate::folders::{Case, folder_of};
-use crate::rows::rows_text;
+use crate::given::given_text;
 use lean_io::MemFolder;
 use std::alloc::Global;
 use std::test::Fail;
@@ -32,17 +31,12 @@ fn case_of(alloc: Global, kind: &str) -> Result<Case, Fail> {
 
 fn whole_rows(alloc: Global, case: &Case, inner: MemFolder) -> Result<String, Fail> {
     let mut folder = inner;
-    rows_text(alloc, case, &mut folder)
+    given_text(alloc, case, &mut folder, false)
 }
 
-fn slow_rows(alloc: Global, case: &Case, inner: MemFolder) -> Result<String, Fail> {
+fn slow_text(alloc: Global, case: &Case, inner: MemFolder, fill: bool) -> Result<String, Fail> {
     let mut folder = SlowFolder { inner };
-    rows_text(alloc, case, &mut folder)
-}
-
-fn slow_filled(alloc: Global, case: &Case, inner: MemFolder) -> Result<String, Fail> {
-    let mut folder = SlowFolder { inner };
-    filled_text(alloc, case, &mut folder)
+    given_text(alloc, case, &mut folder, fill)
 }
 
 // What is read, one byte a read, and which call of which file fails. A minute row takes 19 reads, a row of the other files 25,
@@ -100,13 +94,13 @@ fn split(input: &str) -> Result<(&str, &str, u64), Fail> {
 fn rows(alloc: Global, input: &str) -> Result<String, Fail> {
     let (kind, file, call) = split(input)?;
     let case = case_of(alloc, kind)?;
-    slow_rows(alloc, &case, failing(alloc, kind, file, call)?)
+    slow_text(alloc, &case, failing(alloc, kind, file, call)?, false)
 }
 
 fn filled(alloc: Global, input: &str) -> Result<String, Fail> {
     let (kind, file, call) = split(input)?;
     let case = case_of(alloc, kind)?;
-    slow_filled(alloc, &case, failing(alloc, kind, file, call)?)
+    slow_text(alloc, &case, failing(alloc, kind, file, call)?, true)
 }
 
 #[test]
@@ -133,7 +127,7 @@ fn shows_fronts(
 ) -> Result<bool, Fail> {
     let rows = whole_rows(alloc, case, failing(alloc, kind, "none", 0)?)?;
     let whole = whole_rows(alloc, case, failing(alloc, kind, file, call)?)?;
-    let slow = slow_rows(alloc, case, failing(alloc, kind, file, call)?)?;
+    let slow = slow_text(alloc, case, failing(alloc, kind, file, call)?, false)?;
     Ok(is_front(rows.as_str(), whole.as_str()) && is_front(rows.as_str(), slow.as_str()))
 }
 
