@@ -1,5 +1,6 @@
 ghost use Rattle.std.specs.Prelude.{◌<◌, IfOk};
-ghost use Rattle.lean_fixed.specs.Ranges.{IsMoment};
+ghost use Rattle.lean_fixed.specs.Ranges.{IsMoment, IsStartingCash};
+ghost use Rattle.trade_costs.specs.Fees.{IsCosts};
 ghost use Rattle.clock_book.specs.Fitting.{IsFitting, IsPriceBar};
 
 use crate::cases::{number, price, symbol, within};
@@ -46,6 +47,18 @@ const BOOKS: &str = "\
 601 mark A 10 10 10 10; 601 mark B 20 20 20 20; 601 limit A 1 9; 601 limit B 1 25; 602 mark A 8 8 8 8; 602 repeat A 9 9 9 9; 602 mark B 22 22 22 22; 602 match = done, done, 1 A submitted limit 1 9, done, 2 B submitted limit 1 25, done, done, done, done, 1 A filled 1 8 fee 1, 2 B filled 1 22 fee 1, done; orders 2 fills 2 fees 2 realised 0
 601 mark SPY 100 100 100 100; 601 market SPY 10; 601 stop SPY -10 95; 602 mark SPY 96 96 94 94; 602 match; 602 account = done, 1 SPY submitted market 10 -, 1 SPY filled 10 102 fee 10, done, 2 SPY submitted stop -10 95, done, done, 2 SPY filled -10 92 fee 10, done, cash 9999880 equity 9999880, done; orders 2 fills 2 fees 20 realised -100
 601 mark SPY 100 100 100 100; 601 limit SPY 10 90; 601 match; 602 mark SPY 100 100 100 100; 602 update 1 101; 602 match = done, 1 SPY submitted limit 10 90, done, done, done, 1 SPY updated 101, done, 1 SPY filled 10 100 fee 10, done; orders 1 fills 1 fees 10 realised 0
+601 mark SPY 100 100 100 100; 601 stop-limit SPY 10 102; 601 stop-limit SPY 10 102 0; 601 stop-limit SPY 10 0 101; 601 stop-limit SPY 10 102 10000000001; 601 stop-limit SPY 10 10000000001 101; 601 limit SPY 10 99 0; 601 update 6 98; 601 stop-limit SPY 10 10000000000 1; 601 update 7 0; 601 update 7 101 = done, 1 SPY invalid price, done, 2 SPY invalid price, done, 3 SPY invalid price, done, 4 SPY invalid price, done, 5 SPY invalid price, done, 6 SPY submitted limit 10 99, done, 6 SPY updated 98, done, 7 SPY submitted stop-limit 10 10000000000 1, done, 7 SPY invalid price, done, 7 SPY updated 101, done; orders 7 fills 0 fees 0 realised 0
+601 mark SPY 100 100 100 100; 601 stop-limit SPY 10 100 120; 602 mark SPY 100 100 90 95; 602 match; 603 mark SPY 101 101 101 101; 602 stop-limit SPY 1 100 110; 603 stop-limit SPY 1 100 110; 603 match; 604 mark SPY 100 100 100 100; 604 match = done, 1 SPY submitted stop-limit 10 100 120, done, done, done, done, 2 SPY submitted stop-limit 1 100 110, done, 3 SPY submitted stop-limit 1 100 110, done, 1 SPY filled 10 101 fee 10, 2 SPY filled 1 101 fee 1, done, done, done; orders 3 fills 2 fees 11 realised 0
+601 mark SPY 100 100 100 100; 601 stop-limit SPY 10 102 101; 602 mark SPY 101 103 100 102; 602 match; 602 update 1 200; 603 repeat SPY 90 90 90 90; 603 match; 604 mark SPY 102 102 100 100; 604 match = done, 1 SPY submitted stop-limit 10 102 101, done, done, done, 1 SPY updated 200, done, done, done, done, 1 SPY filled 10 101 fee 10, done; orders 1 fills 1 fees 10 realised 0
+601 mark SPY 100 100 100 100; 601 stop-limit SPY -10 99 98; 602 mark SPY 99 99 97 97; 602 match; 602 cancel 1; 603 mark SPY 100 100 100 100; 603 match = done, 1 SPY submitted stop-limit -10 99 98, done, done, done, 1 SPY canceled, done, done, done; orders 1 fills 0 fees 0 realised 0
+961 mark SPY 100 100 100 100; 961 stop-limit SPY 10 102 99; 7801 mark SPY 103 103 103 103; 7801 match; 10651 mark SPY 98 98 98 98; 10651 match = done, 1 SPY submitted stop-limit 10 102 99, done, done, done, done, done; orders 1 fills 0 fees 0 realised 0
+";
+
+// The same, to a book of 100,000,000 units of cash without costs, where a stop-limit order is triggered by one bar and filled
+// by the next, and where one is triggered and filled by the same bar.
+const FREE_BOOKS: &str = "\
+601 mark SPY 1000000 1000000 1000000 1000000; 601 match; 601 market SPY 10; 601 stop-limit SPY 10 1020000 1015000; 602 mark SPY 1010000 1030000 1000000 1020000; 602 match; 603 mark SPY 1020000 1020000 1000000 1010000; 603 match; 960 account = done, done, 1 SPY submitted market 10 -, 1 SPY filled 10 1000000 fee 0, done, 2 SPY submitted stop-limit 10 1020000 1015000, done, done, done, done, 2 SPY filled 10 1015000 fee 0, done, cash 79850000 equity 100050000, done; orders 2 fills 2 fees 0 realised 0
+601 mark SPY 1000000 1000000 1000000 1000000; 601 match; 601 stop-limit SPY -10 990000 0; 601 stop-limit SPY -10 990000 985000; 602 mark SPY 1000000 1000000 980000 990000; 602 match; 960 account = done, done, 1 SPY invalid price, done, 2 SPY submitted stop-limit -10 990000 985000, done, done, 2 SPY filled -10 985000 fee 0, done, cash 109850000 equity 99950000, done; orders 2 fills 1 fees 0 realised 0
 ";
 
 // The word at a place of a command.
@@ -112,6 +125,7 @@ fn submit(text: &str, at: Moment, kind: Kind) -> Result<Command, Fail>
         kind,
         quantity: Shares(i64::try_from(number(field(text, 3))?)?),
         price: asked(field(text, 4))?,
+        limit: asked(field(text, 5))?,
     };
     Ok(Command::Submit(at, request))
 }
@@ -140,6 +154,7 @@ fn command(text: &str) -> Result<Command, Fail>
         Some("limit") => submit(text, at, Kind::Limit),
         Some("stop") => submit(text, at, Kind::Stop),
         Some("open") => submit(text, at, Kind::AtOpen),
+        Some("stop-limit") => submit(text, at, Kind::StopLimit),
         Some("update") => update(text, at),
         Some("cancel") => Ok(Command::Cancel(at, id(text)?)),
         Some("account") => Ok(Command::Account(at)),
@@ -165,6 +180,7 @@ fn kind_word(kind: Kind) -> &'static str {
         Kind::Limit => "limit",
         Kind::Stop => "stop",
         Kind::AtOpen => "open",
+        Kind::StopLimit => "stop-limit",
     }
 }
 
@@ -198,11 +214,20 @@ fn say_price(price: Option<Price>, said: &mut String) -> Result<(), Fail> {
     Ok(())
 }
 
+fn say_limit(limit: Option<Price>, said: &mut String) -> Result<(), Fail> {
+    match limit {
+        Some(limit) => write!(said, " {}", limit.0)?,
+        None => {}
+    }
+    Ok(())
+}
+
 fn say_what(what: &What, said: &mut String) -> Result<(), Fail> {
     match what {
-        What::Submitted(kind, quantity, price) => {
+        What::Submitted(kind, quantity, price, limit) => {
             write!(said, " submitted {} {}", kind_word(*kind), quantity.0)?;
             say_price(*price, said)?;
+            say_limit(*limit, said)?;
         }
         What::Updated(price) => write!(said, " updated {}", price.0)?,
         What::Filled(fill) => {
@@ -261,21 +286,37 @@ fn say_book(book: &Book, said: &mut String) -> Result<(), Fail> {
     Ok(())
 }
 
-fn new_book(alloc: Global) -> Result<Book, Fail> {
+fn new_book(alloc: Global, cash: Money, costs: Costs) -> Result<Book, Fail>
+    requires cash { IsStartingCash cash.0 }
+    requires costs { IsCosts costs }
+{
     let hours = match Hours::read(alloc, HOURS.as_bytes()) {
         Ok(hours) => Arc::new(alloc, hours)?,
         Err(_) => return Err(Fail::from("hours")),
     };
+    Ok(Book::new(alloc, cash, costs, 2, hours))
+}
+
+fn replies_of(alloc: Global, text: &str) -> Result<String, Fail> {
     let costs = Costs {
         per_share: Money(1),
         least: Money(0),
         slip: 2,
     };
-    Ok(Book::new(alloc, Money(10_000_000), costs, 2, hours))
+    replies_by(alloc, new_book(alloc, Money(10_000_000), costs)?, text)
 }
 
-fn replies_of(alloc: Global, text: &str) -> Result<String, Fail> {
-    let mut book = new_book(alloc)?;
+fn free_replies_of(alloc: Global, text: &str) -> Result<String, Fail> {
+    let costs = Costs {
+        per_share: Money(0),
+        least: Money(0),
+        slip: 0,
+    };
+    replies_by(alloc, new_book(alloc, Money(100_000_000), costs)?, text)
+}
+
+fn replies_by(alloc: Global, book: Book, text: &str) -> Result<String, Fail> {
+    let mut book = book;
     let mut replies = Vec::new(alloc);
     for text in text.split("; ") {
         handle(&mut book, &command(text)?, &mut replies)?;
@@ -289,4 +330,9 @@ fn replies_of(alloc: Global, text: &str) -> Result<String, Fail> {
 #[test]
 fn books(rt: HostRuntime) -> Result<(), Fail> {
     check(rt.alloc(), BOOKS, replies_of)
+}
+
+#[test]
+fn free_books(rt: HostRuntime) -> Result<(), Fail> {
+    check(rt.alloc(), FREE_BOOKS, free_replies_of)
 }

@@ -1,7 +1,9 @@
+ghost use Rattle.std.specs.Prelude.{IfOk, IfSome};
+ghost use Rattle.lean_fixed.specs.Ranges.{IsPrice};
 ghost use Rattle.fill_models.specs.FillPrice.{IsPriced};
 
-use crate::cases::{costs, number, price, quantity, symbol, word};
-use fill_models::try_fill;
+use crate::cases::{costs, number, price, quantity, symbol};
+use fill_models::{triggers, try_fill};
 use lean_fixed::{Moment, Price, Shares};
 use lean_items::Bar;
 use lean_orders::{Kind, Order, OrderState};
@@ -9,9 +11,9 @@ use std::alloc::Global;
 use std::test::Fail;
 use test_cases::cases::check;
 
-// The kind, the quantity and the price of an order that was placed at minute 600, and what a real bar of opening 100, high
+// The kind, the quantity, the price and the limit of an order that was placed at minute 600, and what a real bar of opening 100, high
 // 110, low 90 and closing 105 that ends at minute 601 does with it, with a slip of 2. Then other moments of the order and
-// of the session's opening, and a bar that is not real.
+// of the session's opening, a bar that is not real, and an order that was triggered before.
 const FILLS: &str = "\
 limit 1 90 = none
 limit 1 91 = 91
@@ -44,6 +46,19 @@ open 1 1 at 601 opens 601 = none
 limit 1 200 unreal = none
 stop 1 1 unreal = none
 open 1 1 at 570 opens 570 unreal = none
+stop-limit 1 110 limit 200 = none
+stop-limit 1 109 limit 105 = triggered none
+stop-limit 1 109 limit 106 = triggered 106
+stop-limit 1 109 limit 200 = triggered 110
+stop-limit -1 90 limit 50 = none
+stop-limit -1 91 limit 105 = triggered none
+stop-limit -1 91 limit 104 = triggered 104
+stop-limit -1 91 limit 50 = triggered 90
+stop-limit 1 109 limit 106 at 601 = none
+stop-limit 1 109 limit 106 unreal = none
+stop-limit 1 200 limit 106 before = 106
+stop-limit -1 50 limit 104 before = 104
+stop-limit 1 200 limit 106 before at 601 = none
 ";
 
 fn bar(real: bool) -> Bar
@@ -67,6 +82,7 @@ fn kind(text: Option<&str>) -> Result<Kind, Fail> {
         Some("limit") => Ok(Kind::Limit),
         Some("stop") => Ok(Kind::Stop),
         Some("open") => Ok(Kind::AtOpen),
+        Some("stop-limit") => Ok(Kind::StopLimit),
         _ => Err(Fail::from("a kind")),
     }
 }
@@ -92,14 +108,36 @@ fn fill(alloc: Global, text: &str) -> Result<String, Fail> {
         kind,
         quantity,
         price: Some(price(words.next())?),
+        limit: limit(text)?,
         placed: Moment(after(text, " at ", 600)?),
         state: OrderState::Live,
+        triggered: text.contains(" before"),
     };
     let opens = Moment(after(text, " opens ", 570)?);
     let costs = costs(Some("0"), Some("0"), Some("2"))?;
-    match try_fill(&order, &bar(!text.ends_with("unreal")), opens, &costs) {
-        Some(price) => Ok(format!(in alloc; "{}", price.0)?),
-        None => word(alloc, "none"),
+    let bar = bar(!text.ends_with("unreal"));
+    let trigger = trigger_word(&order, &bar);
+    match try_fill(&order, &bar, opens, &costs) {
+        Some(price) => Ok(format!(in alloc; "{trigger}{}", price.0)?),
+        None => Ok(format!(in alloc; "{trigger}none")?),
+    }
+}
+
+// Whether the bar triggers a stop-limit order, as a word before what it does.
+fn trigger_word(order: &Order, bar: &Bar) -> &'static str {
+    match order.kind {
+        Kind::StopLimit if !order.triggered && triggers(order, bar) => "triggered ",
+        _ => "",
+    }
+}
+
+// The price behind the word limit.
+fn limit(text: &str) -> Result<Option<Price>, Fail>
+    ensures { IfOk result (λ limit. IfSome limit (λ price. IsPrice price.0)) }
+{
+    match text.split_once(" limit ") {
+        Some((_, rest)) => Ok(Some(price(rest.split(' ').next())?)),
+        None => Ok(None),
     }
 }
 
@@ -118,8 +156,10 @@ fn orders_without_a_price(rt: HostRuntime) -> Result<(), Fail> {
         kind: Kind::Limit,
         quantity: Shares(1),
         price: None,
+        limit: None,
         placed: Moment(0),
         state: OrderState::Live,
+        triggered: false,
     };
     assert_eq!(rt; try_fill(&order, &bar(true), Moment(0), &costs), None);
     Ok(())

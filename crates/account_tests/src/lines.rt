@@ -17,6 +17,8 @@ const LINES: &str = "\
 20131007 13:00 order 1 SPY submitted open 10 -
 20131008 09:31 order 1 SPY filled 10 168.0000 fee 0.0000
 20131007 10:01 order 1 SPY submitted limit 10 99.0000
+20131007 10:01 order 2 SPY submitted stop-limit 10 102.0000 101.5000
+20131007 10:01 order 2 SPY submitted stop-limit -10 99.0000 1000100.0000
 20131007 10:02 order 1 SPY updated 95.0000
 20131007 10:03 order 1 SPY canceled
 20131007 10:03 order 1 SPY invalid closed
@@ -34,6 +36,13 @@ const OTHERS: &str = "\
 20131007 10:01 order 1 SPY submitted market 10
 20131007 10:01 order 1 SPY submitted market 10 100.0000
 20131007 10:01 order 1 SPY submitted limit 10 -
+20131007 10:01 order 1 SPY submitted limit 10 1.0000 1.0000
+20131007 10:01 order 1 SPY submitted stop-limit 10 -
+20131007 10:01 order 1 SPY submitted stop-limit 10 1.0000
+20131007 10:01 order 1 SPY submitted stop-limit 10 1.0000 -
+20131007 10:01 order 1 SPY submitted stop-limit 10 1.0000 0.0000
+20131007 10:01 order 1 SPY submitted stop-limit 10 1.0000 1000100.0001
+20131007 10:01 order 1 SPY submitted stop-limit 10 1.0000 1.0000 
 20131007 10:01 order 1 SPY submitted limit 0 1.0000
 20131007 10:01 order 1 SPY submitted limit -0 1.0000
 20131007 10:01 order 1 SPY submitted limit 01 1.0000

@@ -1,10 +1,11 @@
 -- What each command does to a book and what it replies.
 use Rattle.std.specs.Prelude.{ℕ, ◌==◌, ℤ, not, ◌||◌, if◌then◌else◌, List, [], ◌∷◌, ◌++◌, map, Option, Some, None}
+use Rattle.lean_fixed.specs.Ranges.{is_price}
 use Rattle.lean_fixed.specs.declared.money.Price.{Price}
 use Rattle.lean_fixed.specs.declared.time.Moment.{Moment}
 use Rattle.exchange_hours.specs.Sessions.{is_open_at}
 use Rattle.lean_orders.specs.declared.order.Kind.{Kind}
-use Rattle.lean_orders.specs.declared.order.Kind.TheVariants.{Market, Limit, Stop, AtOpen}
+use Rattle.lean_orders.specs.declared.order.Kind.TheVariants.{Market, Limit, Stop, AtOpen, StopLimit}
 use Rattle.lean_orders.specs.declared.order.Request.{Request}
 use Rattle.lean_orders.specs.declared.order.Order.{Order}
 use Rattle.lean_orders.specs.declared.order.OrderState.TheVariants as state
@@ -19,7 +20,7 @@ use Rattle.lean_orders.specs.declared.desk.Reply.TheVariants as reply
 use Rattle.lean_orders.specs.declared.desk.Command.{Command}
 use Rattle.lean_orders.specs.declared.desk.Command.TheVariants as command
 use Rattle.clock_book.specs.Books.{BarMark, Book, price_of, cash_of, equity_of, order_of, is_live}
-use Rattle.clock_book.specs.Submits.{is_price, has_price, next_id, kept_price, order_for, submit_cause, market_fill}
+use Rattle.clock_book.specs.Submits.{has_price, next_id, kept_price, kept_limit, order_for, submit_cause, market_fill}
 use Rattle.clock_book.specs.Matches.{match_events, book_after_match, in_state}
 
 -- the replies to a command, of which `Done` is the last, and the book after it
@@ -36,43 +37,13 @@ said at id symbol what = reply.Event (record { at = at; id = id; symbol = Some s
 
 -- the book with other orders, and with another fill
 abbrev pub with_orders : Book → List Order → Book
-with_orders book orders =
-    record {
-      start = book.start;
-      costs = book.costs;
-      leverage = book.leverage;
-      hours = book.hours;
-      marks = book.marks;
-      orders = orders;
-      fills = book.fills;
-      tried = book.tried;
-    }
+with_orders book orders = record book { orders = orders }
 
 abbrev pub with_fill : Book → Fill → Book
-with_fill book fill =
-    record {
-      start = book.start;
-      costs = book.costs;
-      leverage = book.leverage;
-      hours = book.hours;
-      marks = book.marks;
-      orders = book.orders;
-      fills = book.fills ++ fill ∷ [];
-      tried = book.tried;
-    }
+with_fill book fill = record book { fills = book.fills ++ fill ∷ [] }
 
 abbrev pub with_mark : Book → BarMark → Book
-with_mark book mark =
-    record {
-      start = book.start;
-      costs = book.costs;
-      leverage = book.leverage;
-      hours = book.hours;
-      marks = book.marks ++ mark ∷ [];
-      orders = book.orders;
-      fills = book.fills;
-      tried = book.tried;
-    }
+with_mark book mark = record book { marks = book.marks ++ mark ∷ [] }
 
 -- a mark replies nothing
 abbrev pub handled_mark : Book → List ℕ → PriceBar → Handled
@@ -91,14 +62,15 @@ refused_submit book at request cause =
 -- an order that rests
 abbrev pub resting_submit : Book → Moment → Request → Kind → Handled
 resting_submit book at request kind =
-    done (said at (next_id book) request.symbol (what.Submitted kind request.quantity (kept_price kind request.price)) ∷ [])
+    done
+    (said at (next_id book) request.symbol (what.Submitted kind request.quantity (kept_price kind request.price) (kept_limit kind request.limit)) ∷ [])
     (with_orders book (book.orders ++ order_for book at request kind state.Live ∷ []))
 
 -- a market order while the exchange is open fills at once
 abbrev pub market_submit : Book → Moment → Request → ℤ → Handled
 market_submit book at request price =
     let fill = market_fill book request price in
-    done (said at (next_id book) request.symbol (what.Submitted Market request.quantity None)
+    done (said at (next_id book) request.symbol (what.Submitted Market request.quantity None None)
     ∷ said at (next_id book) request.symbol (what.Filled fill) ∷ [])
     (with_fill (with_orders book (book.orders ++ order_for book at request Market state.Filled ∷ [])) fill)
 
@@ -109,6 +81,7 @@ accepted_submit book at request Market price =
 accepted_submit book at request Limit price = resting_submit book at request Limit
 accepted_submit book at request Stop price = resting_submit book at request Stop
 accepted_submit book at request AtOpen price = resting_submit book at request AtOpen
+accepted_submit book at request StopLimit price = resting_submit book at request StopLimit
 
 -- a request that has no cause against it has a price
 abbrev pub priced_submit : Book → Moment → Request → Option ℤ → Handled
@@ -134,18 +107,9 @@ refused book at order cause = done (said at order.id order.symbol (what.Invalid 
 abbrev pub replaced : List Order → Order → List Order
 replaced orders order = map (λ old. if old.id == order.id then order else old) orders
 
--- the order at another price: its moment stays
+-- the order at another price: its moment and its limit stay, and what is triggered stays triggered
 abbrev pub at_price : Price → Order → Order
-at_price price order =
-    record {
-      id = order.id;
-      symbol = order.symbol;
-      kind = order.kind;
-      quantity = order.quantity;
-      price = Some price;
-      placed = order.placed;
-      state = order.state;
-    }
+at_price price order = record order { price = Some price }
 
 abbrev pub updated_order : Book → Moment → Price → Order → Handled
 updated_order book at price order =

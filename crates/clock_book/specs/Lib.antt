@@ -3,4 +3,5 @@ pub mod Submits
 pub mod Matches
 pub mod Handled
 pub mod Fitting
+pub mod Seen
 pub mod Worked

@@ -1,10 +1,10 @@
 -- A submit: the first cause for which it is refused, or the order that it makes.
-use Rattle.std.specs.Prelude.{ℕ, ◌+◌, nat_le, ◌==◌, ℤ, pos, unsigned_abs, int_le, Bool, true, false, not, ◌&&◌, if◌then◌else◌, List, length, Option, Some, None}
-use Rattle.lean_fixed.specs.Ranges.{most_quantity, most_price}
+use Rattle.std.specs.Prelude.{ℕ, ◌+◌, nat_le, ◌==◌, ℤ, pos, unsigned_abs, Bool, true, false, not, ◌&&◌, ◌||◌, if◌then◌else◌, List, length, Option, Some, None}
+use Rattle.lean_fixed.specs.Ranges.{most_quantity, is_price}
 use Rattle.lean_fixed.specs.declared.money.Price.{Price}
 use Rattle.lean_fixed.specs.declared.time.Moment.{Moment}
 use Rattle.lean_orders.specs.declared.order.Kind.{Kind}
-use Rattle.lean_orders.specs.declared.order.Kind.TheVariants.{Market, Limit, Stop, AtOpen}
+use Rattle.lean_orders.specs.declared.order.Kind.TheVariants.{Market, Limit, Stop, AtOpen, StopLimit}
 use Rattle.lean_orders.specs.declared.order.Request.{Request}
 use Rattle.lean_orders.specs.declared.order.Order.{Order}
 use Rattle.lean_orders.specs.declared.order.OrderState.{OrderState}
@@ -22,21 +22,31 @@ use Rattle.clock_book.specs.Books.{Book, price_of, position_of, equity_of, other
 abbrev pub is_quantity : ℤ → Bool
 is_quantity quantity = not (unsigned_abs quantity == 0) && nat_le (unsigned_abs quantity) most_quantity
 
--- a price that an order may have
-abbrev pub is_price : ℤ → Bool
-is_price price = int_le (pos 1) price && int_le price (pos most_price)
-
 -- whether orders of a kind rest at a price of their own
 abbrev pub has_price : Kind → Bool
 has_price Market = false
 has_price Limit = true
 has_price Stop = true
 has_price AtOpen = false
+has_price StopLimit = true
 
--- the price of a request is in order, where its kind has one
+-- whether they have a limit beside it
+abbrev pub has_limit : Kind → Bool
+has_limit Market = false
+has_limit Limit = false
+has_limit Stop = false
+has_limit AtOpen = false
+has_limit StopLimit = true
+
+-- a price that is asked for is there, and in order
 abbrev pub is_priced : Option Price → Bool
 is_priced None = false
 is_priced (Some price) = is_price price.0
+
+-- a price that the request's kind wants is missing or out of range
+abbrev pub is_unpriced : Request → Bool
+is_unpriced request =
+    (has_price request.kind && not (is_priced request.price)) || (has_limit request.kind && not (is_priced request.limit))
 
 abbrev pub fee_of : Costs → ℤ → ℤ
 fee_of costs quantity = fee costs (pos (unsigned_abs quantity))
@@ -57,7 +67,7 @@ power_of book request price =
 -- the first cause for which a request of a symbol of this price is refused
 abbrev pub priced_cause : Book → Request → ℤ → Option Cause
 priced_cause book request price =
-    if has_price request.kind && not (is_priced request.price) then Some PriceForm
+    if is_unpriced request then Some PriceForm
     else if allows (power_of book request price) then None
     else Some BuyingPower
 
@@ -74,9 +84,12 @@ submit_cause book request =
 abbrev pub next_id : Book → ℕ
 next_id book = length book.orders + 1
 
--- the price that an order of a kind keeps
+-- the price and the limit that an order of a kind keeps
 abbrev pub kept_price : Kind → Option Price → Option Price
 kept_price kind price = if has_price kind then price else None
+
+abbrev pub kept_limit : Kind → Option Price → Option Price
+kept_limit kind limit = if has_limit kind then limit else None
 
 -- the order that a request makes
 abbrev pub order_for : Book → Moment → Request → Kind → OrderState → Order
@@ -87,8 +100,10 @@ order_for book at request kind state =
       kind = kind;
       quantity = request.quantity;
       price = kept_price kind request.price;
+      limit = kept_limit kind request.limit;
       placed = at;
       state = state;
+      triggered = false;
     }
 
 -- the fill of a quantity of a symbol at a price

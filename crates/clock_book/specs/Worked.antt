@@ -1,5 +1,5 @@
 -- A new book and some commands, small enough to compute the replies on.
-use Rattle.std.specs.Prelude.{ℕ, ◌+◌, ℤ, pos, true, List, [], ◌∷◌, map, Option}
+use Rattle.std.specs.Prelude.{ℕ, ◌+◌, ℤ, pos, true, List, [], ◌∷◌, map, Option, Some, None}
 use Rattle.exchange_hours.specs.Entries.{Entries}
 use Rattle.exchange_hours.specs.Worked.{usual_segment}
 use Rattle.lean_fixed.specs.declared.money.Price.{Price}
@@ -9,6 +9,7 @@ use Rattle.lean_orders.specs.declared.desk.Reply.{Reply}
 use Rattle.lean_orders.specs.declared.desk.Reply.TheVariants.{Event}
 use Rattle.lean_orders.specs.declared.event.What.{What}
 use Rattle.lean_orders.specs.declared.order.Kind.{Kind}
+use Rattle.lean_orders.specs.declared.order.Kind.TheVariants.{StopLimit}
 use Rattle.lean_orders.specs.declared.order.Request.{Request}
 use Rattle.clock_book.specs.Books.{Book, new_book}
 
@@ -32,7 +33,12 @@ abbrev pub price : ℕ → Price
 price n = record { 0 = pos n }
 
 abbrev pub ask : Kind → ℤ → Option Price → Request
-ask kind quantity price = record { symbol = spider; kind = kind; quantity = record { 0 = quantity }; price = price }
+ask kind quantity price =
+    record { symbol = spider; kind = kind; quantity = record { 0 = quantity }; price = price; limit = None }
+
+-- a stop-limit order of this quantity, stop and limit
+abbrev pub ask_stop_limit : ℤ → ℕ → ℕ → Request
+ask_stop_limit quantity stop limit = record (ask StopLimit quantity (Some (price stop))) { limit = Some (price limit) }
 
 -- a real bar from a minute of that day to the next one
 abbrev pub bar : ℕ → ℕ → ℕ → ℕ → ℕ → PriceBar

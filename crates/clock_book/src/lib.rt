@@ -3,4 +3,5 @@
 //! that serve it and the report all cite these words.
 #![tactic(auto)]
 
+pub mod laws;
 mod worked;

@@ -1,5 +1,5 @@
 -- The malformed line of a feed is one of a file of the feed.
-use Rattle.std.proofs.Common.{◌≡◌, ℕ, zero, suc, ◌+◌, ◌-◌, ◌<◌, ◌≤◌, ◌⊎◌, ℤ, pos, negsuc, ◌≤ℤ◌, List, [], ◌∷◌, ◌++◌, Bool, true, false, sym, subst, arith, map, inl, inr}
+use Rattle.std.proofs.Common.{◌≡◌, ℕ, zero, suc, ◌+◌, ◌-◌, ◌<◌, ◌≤◌, ◌⊎◌, ℤ, pos, negsuc, ◌≤ℤ◌, ◌-ℤ◌, List, [], ◌∷◌, ◌++◌, Bool, true, false, sym, subst, arith, map, inl, inr}
 use Rattle.std.specs.Prelude.{Option, None, Result, Ok, Err, if◌then◌else◌, filter, flat_map}
 use Rattle.std.specs.List.{AllByRecursion as Each, range_with_len}
 use Rattle.std.proofs.lemmas.Bool.{cases_Bool}
@@ -11,15 +11,15 @@ use Rattle.lean_fixed.specs.declared.resolution.Resolution.TheVariants.{Minute, 
 use Rattle.lean_fixed.specs.declared.time.Window.{Window}
 use Rattle.lean_io.specs.Told.{Files}
 use Rattle.lean_items.specs.declared.feed_key.FeedKey.{FeedKey}
-use Rattle.lean_items.specs.declared.feed_key.FeedKind.TheVariants.{Equity}
+use Rattle.lean_items.specs.declared.feed_key.FeedKind.TheVariants.{Coarse, Equity}
 use Rattle.lean_items.specs.declared.reason.Reason.{Reason}
 use Rattle.exchange_hours.specs.Entries.{Entries}
-use Rattle.feed_paths.specs.Files.{day_of, days, files_of, files as numbers, has_session}
+use Rattle.feed_paths.specs.Files.{from_1970, day_of, days, files_of, files as numbers, has_session}
 use Rattle.feed_paths.specs.Paths.{path_of}
 use Rattle.clock_feeds.specs.Entries.{Entry}
-use Rattle.clock_feeds.specs.Raw.{Raw, Timed, raw_of, file_entries, equity_end, equity_entries, equity_raw}
+use Rattle.clock_feeds.specs.Raw.{Raw, Timed, raw_of, file_entries, equity_end, equity_entries, equity_raw, coarse_end, coarse_entries, coarse_raw}
 use Rattle.clock_feeds.specs.Kept.{Kept, cut_at, cut, is_past}
-use Rattle.clock_feeds.specs.Feeds.{bars_of}
+use Rattle.clock_feeds.specs.Feeds.{bars_of, coarse_of}
 use Rattle.clock_feeds.specs.Lists.{StopsInFile}
 
 -- a file has the number of a day
@@ -99,3 +99,13 @@ bars_stop files hours window key symbol resolution is_window is =
     cut_stops _ (equity_raw files hours symbol resolution (numbers key window hours))
     (of_files _ (numbers key window hours)
     (λ file one. of_file file (equity_end hours resolution) (file_entries (equity_entries resolution file) (files (path_of (Equity symbol resolution) file))) one) are)
+
+-- the same of the coarse files
+pub rows_stop : (files : Files) (hours : Entries) (window : Window) (key : FeedKey) → IsWindow window → key.kind ≡ Coarse → StopsInFile (coarse_of files hours window key).stop
+unfolding coarse_of coarse_raw
+rows_stop files hours window key is_window is =
+    let most = is_window.last.1 in
+    let are : Each IsFile (numbers key window hours)
+    = subst (λ kind. Each IsFile (files_of kind key.start.0 window hours)) (sym is) (up_to (from_1970 (window.first.0 -ℤ pos 1)) (window.last.0 -ℤ pos 1) (omega (arith, ints, most))) in
+    cut_stops _ (coarse_raw files (numbers key window hours))
+    (of_files _ (numbers key window hours) (λ file one. of_file file (coarse_end file) (file_entries coarse_entries (files (path_of Coarse file))) one) are)

@@ -37,11 +37,11 @@ pub rising_weaker : (a b e : ℕ) → a ≤ b → b < e → a < e
 rising_weaker a b e low up = omega (arith, low, up)
 
 -- the rows of the entries that have one
-abbrev OnRow : (Row → Type 0) → Result Row Reason → Type 0
+abbrev pub OnRow : (Row → Type 0) → Result Row Reason → Type 0
 OnRow Valid (Ok row) = Valid row
 OnRow Valid (Err reason) = Unit {0}
 
-abbrev AllValid : (Row → Type 0) → List (Entry Row) → Type 0
+abbrev pub AllValid : (Row → Type 0) → List (Entry Row) → Type 0
 AllValid Valid [] = Unit {0}
 AllValid Valid (entry ∷ more) = OnRow Valid entry.says × AllValid Valid more
 
@@ -50,7 +50,7 @@ abbrev Follows : Option Row → Row → Type 0
 Follows None row = Unit {0}
 Follows (Some before) row = starts_after before row ≡ true
 
-later_start : (a b : ℤ) → int_lt a b ≡ true → a <ℤ b
+pub later_start : (a b : ℤ) → int_lt a b ≡ true → a <ℤ b
 later_start a b h = grind (arith, ints)
 
 lt_tested : (a b : ℤ) → a <ℤ b → int_lt a b ≡ true
@@ -128,7 +128,7 @@ module _ (row : List ℕ → Option (Result Row Reason)) (Valid : Row → Type 0
 
 -- ---- what the rows of each resolution say
 
-same_said : {A : Type 0} {a b : A} → Some a ≡ Some b → a ≡ b
+pub same_said : {A : Type 0} {a b : A} → Some a ≡ Some b → a ≡ b
 same_said h = cc
 
 abbrev OfDay : ℕ → Row → Type 0

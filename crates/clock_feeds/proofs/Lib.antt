@@ -9,3 +9,8 @@ pub mod CoarseLemmas
 pub mod FeedLemmas
 pub mod StandLemmas
 pub mod FileLemmas
+pub mod GrowLemmas
+pub mod StayLemmas
+pub mod KeyLemmas
+pub mod OnGridLemmas
+pub mod AheadLemmas

@@ -1,5 +1,5 @@
 -- What a search, a filter and a last element tell.
-use Rattle.std.proofs.Common.{◌≡◌, Bool, true, false, List, [], ◌∷◌, refl, subst, true≢false}
+use Rattle.std.proofs.Common.{◌≡◌, Bool, true, false, List, [], ◌∷◌, ◌++◌, refl, subst, true≢false}
 use Rattle.std.specs.Prelude.{Option, Some, None, find, filter, cond, ◌&&◌}
 use Rattle.std.specs.List.{list_all, last_or}
 pub use Rattle.std.specs.List.{AllByRecursion as Each}
@@ -42,3 +42,7 @@ module _ {X : Type 0} where
   pub not_all : (p : X → Bool) (P : X → Type 0) (xs : List X) → Each P xs → list_all p xs ≡ false → (x : X) × P x × (p x ≡ false)
   not_all p P [] each not = absurd (true≢false not)
   not_all p P (y ∷ ys) each not = all_step p P y ys (p y) refl each.0 not (λ later. not_all p P ys each.1 later)
+
+  pub each_both : (P : X → Type 0) (xs ys : List X) → Each P xs → Each P ys → Each P (xs ++ ys)
+  each_both P [] ys first second = second
+  each_both P (x ∷ xs) ys first second = (first.0, each_both P xs ys first.1 second)

@@ -8,7 +8,7 @@ use Rattle.std.proofs.lemmas.Bool.{cases_lt, and_parts, and_from}
 use Rattle.lean_items.specs.declared.bad.Bad.{Bad}
 use Rattle.lean_items.specs.declared.bar.Bar.{Bar}
 use Rattle.lean_items.specs.declared.item.Item.{Item}
-use Rattle.lean_items.specs.declared.item.Item.TheVariants.{Bar as BarItem}
+use Rattle.lean_items.specs.declared.item.Item.TheVariants.{Bar as BarItem, Coarse as CoarseItem, Bad as BadItem, Faulted, End}
 use Rattle.clock_feeds.specs.Kept.{Kept}
 use Rattle.clock_feeds.specs.Bars.{Filling, end_of, ends_at, ends_before, ends_by, is_over, fills_at, filled, bar_at, blocked}
 use Rattle.clock_feeds.specs.Feeds.{last_item, items_from, row_items}
@@ -239,9 +239,12 @@ none_past t e (BarItem bar ∷ items) all past =
     let parts = and_parts (is_by t (BarItem bar)) (list_all (is_by t) items) all in
     let other : (end_of bar == e) ≡ false = (let h : nat_le (end_of bar) t ≡ true = parts.0 in grind (arith, nat_tests)) in
     other_bar e bar items other ∙ none_past t e items parts.1 past
-none_past t e (item ∷ items) all past = none_past t e items all past
+none_past t e (CoarseItem at row ∷ items) all past = none_past t e items (and_parts (is_by t (CoarseItem at row)) (list_all (is_by t) items) all).1 past
+none_past t e (BadItem bad ∷ items) all past = none_past t e items all past
+none_past t e (Faulted ∷ items) all past = none_past t e items all past
+none_past t e (End ∷ items) all past = none_past t e items all past
 
-none_listed : (o : Option Bar) → [] ≡ option_to_list o → o ≡ None
+pub none_listed : (o : Option Bar) → [] ≡ option_to_list o → o ≡ None
 none_listed None is = refl
 none_listed (Some bar) is = absurd cc
 

@@ -6,4 +6,7 @@ pub mod Feeds
 pub mod Slices
 pub mod Stands
 pub mod Lists
+pub mod Known
+pub mod Grid
+pub mod Ahead
 pub mod Worked

@@ -6,6 +6,8 @@ use Rattle.lean_fixed.specs.Calendar.{last_day}
 use Rattle.lean_items.specs.declared.bad.Bad.{Bad}
 use Rattle.lean_items.specs.declared.bar.Bar.{Bar}
 use Rattle.lean_items.specs.declared.coarse_row.CoarseRow.{CoarseRow}
+use Rattle.lean_items.specs.declared.feed_key.FeedKind.{FeedKind}
+use Rattle.lean_items.specs.declared.feed_key.FeedKind.TheVariants.{Coarse as CoarseFiles, Equity}
 use Rattle.lean_items.specs.declared.item.Item.{Item}
 use Rattle.lean_items.specs.declared.item.Item.TheVariants.{Bar as BarItem, Coarse as CoarseItem, Bad as BadItem, Faulted, End}
 use Rattle.lean_items.specs.Fits.{is_bar_in_range, is_row_in_range}
@@ -38,6 +40,27 @@ RowsRise after (row ∷ rows) = (after ≤ row.0) × RowsRise row.0 rows
 abbrev pub StopsInFile : Option Bad → Type 0
 StopsInFile None = Unit {0}
 StopsInFile (Some bad) = bad.file ≤ last_day
+
+-- the same of the malformed line among some items
+abbrev pub IsInFile : Item → Type 0
+IsInFile (BadItem bad) = bad.file ≤ last_day
+IsInFile (BarItem bar) = Unit {0}
+IsInFile (CoarseItem at row) = Unit {0}
+IsInFile Faulted = Unit {0}
+IsInFile End = Unit {0}
+
+-- a feed of bars gives no coarse row, and a feed of coarse rows no bar
+abbrev pub IsOfKind : FeedKind → Item → Type 0
+IsOfKind CoarseFiles (BarItem bar) = ⊥
+IsOfKind (Equity symbol resolution) (CoarseItem at row) = ⊥
+IsOfKind CoarseFiles (CoarseItem at row) = Unit {0}
+IsOfKind CoarseFiles (BadItem bad) = Unit {0}
+IsOfKind CoarseFiles Faulted = Unit {0}
+IsOfKind CoarseFiles End = Unit {0}
+IsOfKind (Equity symbol resolution) (BarItem bar) = Unit {0}
+IsOfKind (Equity symbol resolution) (BadItem bad) = Unit {0}
+IsOfKind (Equity symbol resolution) Faulted = Unit {0}
+IsOfKind (Equity symbol resolution) End = Unit {0}
 
 -- rows, and behind them the malformed line or the end
 pub record IsWhole (list : List Item) : Type 0 where
@@ -89,10 +112,10 @@ row_ending t End = None
 abbrev pub rows_ending : ℕ → List Item → List CoarseRow
 rows_ending t items = filter_map (row_ending t) items
 
--- an item is no bar that ends past a moment
+-- an item is no row that ends past a moment
 abbrev pub is_by : ℕ → Item → Bool
 is_by t (BarItem bar) = nat_le (end_of bar) t
-is_by t (CoarseItem at row) = true
+is_by t (CoarseItem at row) = nat_le (unsigned_abs at.0) t
 is_by t (BadItem bad) = true
 is_by t Faulted = true
 is_by t End = true
@@ -114,7 +137,7 @@ stop_in (CoarseItem at row ∷ items) = stop_in items
 stop_in (Faulted ∷ items) = stop_in items
 stop_in (End ∷ items) = stop_in items
 
--- the malformed line of a list, once all its bars have ended by a moment
+-- the malformed line of a list, once all its rows have ended by a moment
 abbrev pub blocked_in : List Item → ℕ → Option Bad
 blocked_in items t = if list_all (is_by t) items then stop_in items else None
 

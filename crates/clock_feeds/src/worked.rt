@@ -6,6 +6,7 @@ ghost use Rattle.lean_items.specs.declared.reason.Reason.TheVariants.{Fields, Or
 ghost use Rattle.clock_feeds.specs.Bars.{bar_at, blocked};
 ghost use Rattle.clock_feeds.specs.Feeds.{bars_of, coarse_of, items_from};
 ghost use Rattle.clock_feeds.specs.Slices.{slice, refused, coarse_at};
+ghost use Rattle.clock_feeds.specs.Known.{bars_by, coarse_blocked};
 ghost use Rattle.clock_feeds.specs.Worked.{usual_hours, night_hours, days, spider, universe, everywhere, two_days, two_nights, sunday, lines_of, ends, hour_bar, filled_bar, two_bars, malformed, by_hours, two_sources};
 
 /// Of five minutes of a Friday those are kept that start from 09:30 on and before 16:00: the bar that ends as the session
@@ -81,6 +82,9 @@ pub fn coarse_of_a_sunday()
         ≡ [] ∷ [] ∷ (codes "SPY" ∷ []) ∷ [] }
     ensures stop { (coarse_of sunday usual_hours (days 4 5) (universe 5759)).stop
         ≡ Some (record { file = 3; line = 3; reason = Fields }) }
+    ensures blocked { map (coarse_blocked (coarse_of sunday usual_hours (days 4 5) (universe 5759)))
+        (5759 ∷ 5760 ∷ [])
+        ≡ None ∷ Some (record { file = 3; line = 3; reason = Fields }) ∷ [] }
 {}
 
 /// Two rows are filled at the grid's ends past each of them: up to the closing, or not behind the malformed line.
@@ -104,6 +108,12 @@ pub fn items_of_a_day()
     ensures malformed { items_from by_hours (two_bars (Some malformed)) 2040
         ≡ BarItem (hour_bar 2100 5) ∷ BarItem (filled_bar 2160 5) ∷ BarItem (hour_bar 2220 6)
         ∷ BadItem malformed ∷ [] }
+{}
+
+/// The bars up to a moment are those that have ended, filled ones among them.
+pub fn bars_up_to_a_moment()
+    ensures { bars_by (record { filling = by_hours; kept = two_bars None }) 2219
+        ≡ hour_bar 2100 5 ∷ filled_bar 2160 5 ∷ [] }
 {}
 
 /// What ends at a moment over two sources, and which of them is refused.

@@ -112,6 +112,7 @@ fn buy(quantity: u32) -> Result<Command, Fail>
         kind: Kind::Market,
         quantity: Shares(quantity as i64),
         price: None,
+        limit: None,
     };
     Ok(Command::Submit(Moment(MOMENT), request))
 }
@@ -179,7 +180,7 @@ fn cause_word(cause: &Cause) -> &'static str {
 
 fn say_what(what: &What, said: &mut String) -> Result<(), Fail> {
     match what {
-        What::Submitted(_, quantity, _) => writeln!(said, "submitted {}", quantity.0)?,
+        What::Submitted(_, quantity, _, _) => writeln!(said, "submitted {}", quantity.0)?,
         What::Updated(price) => writeln!(said, "updated {}", price.0)?,
         What::Filled(fill) => writeln!(said, "filled {} {}", fill.quantity.0, fill.price.0)?,
         What::Canceled => writeln!(said, "canceled")?,

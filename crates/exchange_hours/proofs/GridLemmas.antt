@@ -15,7 +15,7 @@ use Rattle.exchange_hours.specs.Spans.{IsSpan, IsEnd, IsNextEnd}
 use Rattle.exchange_hours.specs.Next.{IsNextFrom}
 
 -- a bar as facts
-abbrev IsBar : Entries → Resolution → ℕ → ℕ → Type 0
+abbrev pub IsBar : Entries → Resolution → ℕ → ℕ → Type 0
 IsBar hours Minute start end = end ≡ start + 1
 IsBar hours Hour start end = (start % 60 ≡ 0) × (end ≡ start + 60)
 IsBar hours Daily start end = (minute_of_day start ≡ 0) × (close_of hours (day_of start) ≡ Some end)
@@ -27,14 +27,14 @@ close_told (Some closes) t h = ap Some (grind (arith, nat_tests))
 close_tested : (found : Option ℕ) (t : ℕ) → found ≡ Some t → option_map_or (λ closes. closes == t) found false ≡ true
 close_tested found t is = rw is (grind (arith, nat_tests))
 
-bar_told : (hours : Entries) (resolution : Resolution) (start end : ℕ) → is_bar hours resolution start end ≡ true → IsBar hours resolution start end
+pub bar_told : (hours : Entries) (resolution : Resolution) (start end : ℕ) → is_bar hours resolution start end ≡ true → IsBar hours resolution start end
 bar_told hours Minute start end h = grind (arith, nat_tests)
 bar_told hours Hour start end h =
     let parts = and_parts (start % 60 == 0) (end == start + 60) h in (grind (arith, nat_tests), grind (arith, nat_tests))
 bar_told hours Daily start end h =
     let parts = and_parts (minute_of_day start == 0) _ h in (grind (arith, nat_tests), close_told (close_of hours (day_of start)) end parts.1)
 
-bar_tested : (hours : Entries) (resolution : Resolution) (start end : ℕ) → IsBar hours resolution start end → is_bar hours resolution start end ≡ true
+pub bar_tested : (hours : Entries) (resolution : Resolution) (start end : ℕ) → IsBar hours resolution start end → is_bar hours resolution start end ≡ true
 bar_tested hours Minute start end h = grind (arith, nat_tests)
 bar_tested hours Hour start end h =
     and_from (start % 60 == 0) (end == start + 60) (grind (arith, nat_tests)) (grind (arith, nat_tests))

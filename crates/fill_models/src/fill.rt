@@ -1,7 +1,8 @@
 ghost use Rattle.std.specs.Prelude.{◌≡◌, option_map, IfSome};
 ghost use Rattle.lean_fixed.specs.Ranges.{IsPrice, IsFillPrice};
 ghost use Rattle.trade_costs.specs.Fees.{IsCosts};
-ghost use Rattle.fill_models.specs.FillPrice.{IsPriced, side_of, limit_price, stop_price, open_price, fill_price};
+ghost use Rattle.lean_orders.specs.declared.order.Kind.TheVariants.{StopLimit};
+ghost use Rattle.fill_models.specs.FillPrice.{IsPriced, side_of, limit_price, stop_price, open_price, is_tried, passes, triggers, stop_limit_price, fill_price};
 
 use lean_fixed::{Moment, Price, Shares, Side};
 use lean_items::Bar;
@@ -18,15 +19,18 @@ use trade_costs::Costs;
 /// | buy stop | high > stop | max(stop, slipped closing price) |
 /// | sell stop | low < stop | min(stop, slipped closing price) |
 /// | at-open | the session opens at or after the order's moment | slipped opening price |
+/// | buy stop-limit | it or the bar triggers it, and closing < limit | min(high, limit) |
+/// | sell stop-limit | it or the bar triggers it, and closing > limit | max(low, limit) |
 pub fn try_fill(order: &Order, bar: &Bar, opens: Moment, costs: &Costs) -> Option<Price>
     requires bar { IsPriced bar.now }
     requires price { IfSome order.now.price (λ price. IsPrice price.0) }
+    requires limit { IfSome order.now.limit (λ limit. IsPrice limit.0) }
     requires costs { IsCosts costs.now }
     ensures value { result
         ≡ option_map (λ price. record { 0 = price }) (fill_price order.now bar.now opens.0 costs.now) }
     ensures range { IfSome result (λ price. IsFillPrice price.0) }
 {
-    if !bar.real || bar.end <= order.placed {
+    if !is_tried(order, bar) {
         return None;
     }
     let side = side_of(order.quantity);
@@ -35,6 +39,40 @@ pub fn try_fill(order: &Order, bar: &Bar, opens: Moment, costs: &Costs) -> Optio
         Kind::Limit => limit_fill(side, bar, order.price?),
         Kind::Stop => stop_fill(side, bar, costs, order.price?),
         Kind::AtOpen => open_fill(side, bar, costs, order.placed, opens),
+        Kind::StopLimit if order.triggered || triggers(order, bar) => stop_limit_fill(
+            side,
+            bar,
+            order.limit?,
+        ),
+        Kind::StopLimit => None,
+    }
+}
+
+/// Whether the bar triggers the stop-limit order, after LEAN's topic "Stop Limit Orders". The bar has to be real and to end
+/// after the order's moment, and it has to have traded past the order's stop: above it for a buy, below it for a sell.
+pub fn triggers(order: &Order, bar: &Bar) -> bool
+    requires kind { order.now.kind ≡ StopLimit }
+    ensures value { result ≡ triggers order.now bar.now }
+{
+    let passed = match order.price {
+        Some(stop) => passes(side_of(order.quantity), bar, stop),
+        None => false,
+    };
+    passed && is_tried(order, bar)
+}
+
+fn is_tried(order: &Order, bar: &Bar) -> bool
+    ensures { result ≡ is_tried order.now bar.now }
+{
+    bar.real && order.placed < bar.end
+}
+
+fn passes(side: Side, bar: &Bar, stop: Price) -> bool
+    ensures { result ≡ passes side bar.now stop.0 }
+{
+    match side {
+        Side::Buy => bar.high > stop,
+        Side::Sell => bar.low < stop,
     }
 }
 
@@ -88,5 +126,19 @@ fn open_fill(side: Side, bar: &Bar, costs: &Costs, placed: Moment, opens: Moment
         Some(costs.slipped(bar.opening, side))
     } else {
         None
+    }
+}
+
+fn stop_limit_fill(side: Side, bar: &Bar, limit: Price) -> Option<Price>
+    requires bar { IsPriced bar.now }
+    requires price { IsPrice limit.0 }
+    ensures value { result
+        ≡ option_map (λ price. record { 0 = price }) (stop_limit_price side bar.now limit.0) }
+    ensures range { IfSome result (λ price. IsFillPrice price.0) }
+{
+    match side {
+        Side::Buy if bar.closing < limit => Some(bar.high.min(limit)),
+        Side::Sell if bar.closing > limit => Some(bar.low.max(limit)),
+        _ => None,
     }
 }

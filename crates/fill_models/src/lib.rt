@@ -5,4 +5,4 @@
 mod fill;
 mod worked;
 
-pub use fill::try_fill;
+pub use fill::{triggers, try_fill};

@@ -1,7 +1,7 @@
 //! The fill table, computed on one bar of opening 100, high 110, low 90 and closing 105, with a slip of 2.
-ghost use Rattle.std.specs.Prelude.{◌≡◌, pos, negsuc, Some, None};
+ghost use Rattle.std.specs.Prelude.{◌≡◌, pos, negsuc, true, false, Some, None};
 ghost use Rattle.lean_orders.specs.declared.order.Kind.TheVariants.{Market, Limit, Stop, AtOpen};
-ghost use Rattle.fill_models.specs.Worked.{tried};
+ghost use Rattle.fill_models.specs.Worked.{tried, tried_stop_limit, tried_triggered, is_set_off};
 
 /// Limits: at the bar's end nothing, past it their own price, and the bar's nearest where all of it is better.
 pub fn limits()
@@ -31,4 +31,24 @@ pub fn opens()
     ensures sell { tried AtOpen (negsuc 0) (pos 1) (pos 570) ≡ Some (pos 98) }
     ensures late { tried AtOpen (pos 1) (pos 1) (pos 571) ≡ None }
     ensures market { tried Market (pos 1) (pos 1) (pos 570) ≡ None }
+{}
+
+/// Stop-limits: triggered past the stop alone, and filled where the bar closed past the limit, by the bar that triggers
+/// them too.
+pub fn stop_limits()
+    ensures buy_at { is_set_off (pos 1) (pos 110) (pos 600) ≡ false }
+    ensures buy_past { is_set_off (pos 1) (pos 109) (pos 600) ≡ true }
+    ensures sell_at { is_set_off (negsuc 0) (pos 90) (pos 600) ≡ false }
+    ensures sell_past { is_set_off (negsuc 0) (pos 91) (pos 600) ≡ true }
+    ensures own_moment { is_set_off (pos 1) (pos 109) (pos 601) ≡ false }
+    ensures buy_not_triggered { tried_stop_limit (pos 1) (pos 110) (pos 106) ≡ None }
+    ensures buy_closed_at { tried_stop_limit (pos 1) (pos 109) (pos 105) ≡ None }
+    ensures buy_closed_past { tried_stop_limit (pos 1) (pos 109) (pos 106) ≡ Some (pos 106) }
+    ensures buy_better { tried_stop_limit (pos 1) (pos 109) (pos 200) ≡ Some (pos 110) }
+    ensures buy_triggered { tried_triggered (pos 1) (pos 110) (pos 106) ≡ Some (pos 106) }
+    ensures sell_not_triggered { tried_stop_limit (negsuc 0) (pos 90) (pos 104) ≡ None }
+    ensures sell_closed_at { tried_stop_limit (negsuc 0) (pos 91) (pos 105) ≡ None }
+    ensures sell_closed_past { tried_stop_limit (negsuc 0) (pos 91) (pos 104) ≡ Some (pos 104) }
+    ensures sell_better { tried_stop_limit (negsuc 0) (pos 91) (pos 50) ≡ Some (pos 90) }
+    ensures sell_triggered { tried_triggered (negsuc 0) (pos 90) (pos 104) ≡ Some (pos 104) }
 {}

@@ -20,7 +20,7 @@ pub struct PriceBar {
 }
 
 /// What the owner of the orders and the money is told to do. Each command has the moment at which it is given.
-#[derive(Drop)]
+#[derive(Clone, Copy)]
 pub enum Command {
     /// The symbol's price is the closing price of this bar from now on.
     Mark(Moment, Symbol, PriceBar),

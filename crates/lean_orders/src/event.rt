@@ -8,8 +8,8 @@ pub enum Cause {
     Quantity,
     /// The symbol of a submit has no price yet.
     NoPrice,
-    /// The price of a limit or stop order is missing or not 1 to 10,000,000,000, or that of an update is not, or the order
-    /// that is to be updated has none.
+    /// The price of a limit, stop or stop-limit order is missing or not 1 to 10,000,000,000, or the limit of a stop-limit
+    /// order is, or the price of an update is out of that range, or the order that is to be updated has none.
     PriceForm,
     /// The account has not the buying power for the order.
     BuyingPower,
@@ -34,15 +34,15 @@ pub struct Fill {
 /// What happened to an order.
 #[derive(Clone, Copy)]
 pub enum What {
-    /// It was accepted with this kind, quantity and price.
-    Submitted(Kind, Shares, Option<Price>),
+    /// It was accepted with this kind, quantity, price and limit. Only a stop-limit order has a limit.
+    Submitted(Kind, Shares, Option<Price>, Option<Price>),
     /// It has this price from now on.
     Updated(Price),
     /// It was filled.
     Filled(Fill),
     /// It was canceled.
     Canceled,
-    /// A request was refused, and nothing has changed.
+    /// A submit, an update or a cancel was refused. A refused submit takes an id; otherwise nothing has changed.
     Invalid(Cause),
 }
 

@@ -9,4 +9,4 @@ mod order;
 
 pub use desk::{Command, Heard, PriceBar, Reply, Ticket};
 pub use event::{Cause, Fill, OrderEvent, What};
-pub use order::{Kind, Order, OrderState, Request};
+pub use order::{Kind, Order, OrderState, Request, Resting};

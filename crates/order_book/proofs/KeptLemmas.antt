@@ -12,7 +12,7 @@ use Rattle.clock_book.specs.Books.{is_live}
 use Rattle.clock_book.specs.Fitting.{most_orders}
 use Rattle.clock_book.specs.Matches.{in_state}
 use Rattle.order_book.specs.Resting.{AreKept, RestsWhereLive, is_filled}
-use Rattle.order_book.proofs.OrderLemmas.{numbered_push, numbered_set, id_at, count_push, count_set, count_le, count_lt, filled_one}
+use Rattle.order_book.proofs.OrderLemmas.{numbered_push, numbered_set, id_at, count_push, count_set, count_same, count_le, count_lt, filled_one}
 
 pub live_not_filled : (state : OrderState) → is_live state ≡ true → is_filled state ≡ false
 live_not_filled Live h = refl
@@ -51,13 +51,13 @@ kept_push_filled old new orders o kept few id filled same more = record {
   applied = omega (arith, kept.applied, count_push orders o, ap (λ state. filled_one (is_filled state)) filled, more);
 }
 
-pub kept_fill : (old new : Account) (orders : List Order) (k : ℕ) (o : Order) → AreKept old orders → slice_get orders k ≡ Some o → is_live o.state ≡ true
+pub kept_fill : (old new : Account) (orders : List Order) (k : ℕ) (was o : Order) → AreKept old orders → slice_get orders k ≡ Some was → is_live was.state ≡ true → o.id ≡ was.id
     → held new ≡ held old → fills_applied new ≡ fills_applied old + 1 → AreKept new (set orders k (in_state Filled o))
-kept_fill old new orders k o kept at lives same more = record {
-  numbered = numbered_set 1 k orders (in_state Filled o) kept.numbered (id_at 1 k orders o kept.numbered at);
+kept_fill old new orders k was o kept at lives id same more = record {
+  numbered = numbered_set 1 k orders (in_state Filled o) kept.numbered (id ∙ id_at 1 k orders was kept.numbered at);
   few = omega (arith, length-set orders k (in_state Filled o), kept.few);
   resting = All-set (RestsWhereLive (held new)) orders k (in_state Filled o) (rests_dead (held new) (in_state Filled o) refl) (resting_same old new orders same kept.resting);
-  applied = omega (arith, kept.applied, count_set orders k o (in_state Filled o) at (live_not_filled o.state lives), more);
+  applied = omega (arith, kept.applied, count_set orders k was (in_state Filled o) at (live_not_filled was.state lives), more);
 }
 
 pub kept_put : (account : Account) (orders : List Order) (k : ℕ) (old o : Order) → AreKept account orders → slice_get orders k ≡ Some old → is_live old.state ≡ true
@@ -67,4 +67,13 @@ kept_put account orders k old o kept at lives id rests unfilled = record {
   few = omega (arith, length-set orders k o, kept.few);
   resting = All-set (RestsWhereLive (held account)) orders k o rests kept.resting;
   applied = omega (arith, kept.applied, count_set orders k old o at (live_not_filled old.state lives), ap filled_one unfilled);
+}
+
+pub kept_same : (account : Account) (orders : List Order) (k : ℕ) (old o : Order) → AreKept account orders → slice_get orders k ≡ Some old → o.id ≡ old.id → o.state ≡ old.state
+    → RestsWhereLive (held account) o → AreKept account (set orders k o)
+kept_same account orders k old o kept at id state rests = record {
+  numbered = numbered_set 1 k orders o kept.numbered (id ∙ id_at 1 k orders old kept.numbered at);
+  few = omega (arith, length-set orders k o, kept.few);
+  resting = All-set (RestsWhereLive (held account)) orders k o rests kept.resting;
+  applied = omega (arith, kept.applied, count_same orders k old o at state);
 }

@@ -7,7 +7,8 @@ use Rattle.std.proofs.lemmas.Option.{none-some, same_Some}
 use Rattle.lean_orders.specs.declared.order.Order.{Order}
 use Rattle.clock_book.specs.Books.{is_live}
 use Rattle.clock_book.specs.Handled.{replaced}
-use Rattle.order_book.specs.Resting.{AreNumbered, Name, is_live_at, is_filled, filled_count}
+use Rattle.order_book.specs.Resting.{Name, lives, is_live_at, is_filled, filled_count}
+use Rattle.clock_book.specs.Seen.{AreNumbered}
 
 -- ---- ids
 
@@ -95,7 +96,7 @@ replaced_set n (suc k) (x ∷ xs) o h e =
 
 -- ---- the places of the live ones
 
-pub name_push_live : (n : ℕ) (places : List ℕ) (xs : List Order) (o : Order) → Name n places xs → Name n (places ++ (n + length xs) ∷ []) (xs ++ o ∷ [])
+pub name_push_live : (n : ℕ) (places : List ℕ) (xs : List Order) (o : Order) → Name lives n places xs → Name lives n (places ++ (n + length xs) ∷ []) (xs ++ o ∷ [])
 name_push_live n places [] o h =
     let e : n + 0 ≡ n = omega arith in
     inl ([], ap (λ ps. ps ++ (n + 0) ∷ []) h ∙ ap (λ p. p ∷ []) e, refl)
@@ -106,12 +107,12 @@ name_push_live n places (x ∷ xs) o h =
           inl (
             rest ++ (n + suc (length xs)) ∷ [],
             ap (λ ps. ps ++ (n + suc (length xs)) ∷ []) is,
-            subst (λ p. Name (n + 1) (rest ++ p ∷ []) (xs ++ o ∷ [])) e (name_push_live (n + 1) rest xs o later),
+            subst (λ p. Name lives (n + 1) (rest ++ p ∷ []) (xs ++ o ∷ [])) e (name_push_live (n + 1) rest xs o later),
           )
-      | inr (dead, later) ↦ inr (dead, subst (λ p. Name (n + 1) (places ++ p ∷ []) (xs ++ o ∷ [])) e (name_push_live (n + 1) places xs o later))
+      | inr (dead, later) ↦ inr (dead, subst (λ p. Name lives (n + 1) (places ++ p ∷ []) (xs ++ o ∷ [])) e (name_push_live (n + 1) places xs o later))
     ]
 
-pub name_push_dead : (n : ℕ) (places : List ℕ) (xs : List Order) (o : Order) → is_live o.state ≡ false → Name n places xs → Name n places (xs ++ o ∷ [])
+pub name_push_dead : (n : ℕ) (places : List ℕ) (xs : List Order) (o : Order) → is_live o.state ≡ false → Name lives n places xs → Name lives n places (xs ++ o ∷ [])
 name_push_dead n places [] o dead h = inr (dead, h)
 name_push_dead n places (x ∷ xs) o dead h =
     elim h [
@@ -119,16 +120,16 @@ name_push_dead n places (x ∷ xs) o dead h =
       | inr (old, later) ↦ inr (old, name_push_dead (n + 1) places xs o dead later)
     ]
 
-pub name_push : (n : ℕ) (places : List ℕ) (xs : List Order) (o : Order) (place : ℕ) → place ≡ n + length xs → Name n places xs
-    → Name n (places ++ cond (is_live o.state) (place ∷ []) []) (xs ++ o ∷ [])
+pub name_push : (n : ℕ) (places : List ℕ) (xs : List Order) (o : Order) (place : ℕ) → place ≡ n + length xs → Name lives n places xs
+    → Name lives n (places ++ cond (is_live o.state) (place ∷ []) []) (xs ++ o ∷ [])
 name_push n places xs o place is h = by (is_live o.state) refl
   where
-    by : (b : Bool) → is_live o.state ≡ b → Name n (places ++ cond b (place ∷ []) []) (xs ++ o ∷ [])
-    by true lives = subst (λ p. Name n (places ++ p ∷ []) (xs ++ o ∷ [])) (sym is) (name_push_live n places xs o h)
-    by false dead = subst (λ ps. Name n ps (xs ++ o ∷ [])) (sym (append-nil places)) (name_push_dead n places xs o dead h)
+    by : (b : Bool) → is_live o.state ≡ b → Name lives n (places ++ cond b (place ∷ []) []) (xs ++ o ∷ [])
+    by true live = subst (λ p. Name lives n (places ++ p ∷ []) (xs ++ o ∷ [])) (sym is) (name_push_live n places xs o h)
+    by false dead = subst (λ ps. Name lives n ps (xs ++ o ∷ [])) (sym (append-nil places)) (name_push_dead n places xs o dead h)
 
 pub name_set : (n k : ℕ) (places : List ℕ) (xs : List Order) (old o : Order) → slice_get xs k ≡ Some old
-    → (is_live old.state ≡ false → is_live o.state ≡ false) → Name n places xs → Name n places (set xs k o)
+    → (is_live old.state ≡ false → is_live o.state ≡ false) → Name lives n places xs → Name lives n places (set xs k o)
 name_set n k places [] old o at dead h = h
 name_set n zero places (x ∷ xs) old o at dead h =
     elim h [
@@ -141,24 +142,24 @@ name_set n (suc k) places (x ∷ xs) old o at dead h =
       | inr (was, later) ↦ inr (was, name_set (n + 1) k places xs old o at dead later)
     ]
 
--- none of them is live
-abbrev pub AreDead : List Order → Type 0
-AreDead [] = Unit {0}
-AreDead (order ∷ later) = (is_live order.state ≡ false) × AreDead later
+-- none of them meets a test
+abbrev pub AreOut : (Order → Bool) → List Order → Type 0
+AreOut test [] = Unit {0}
+AreOut test (order ∷ later) = (test order ≡ false) × AreOut test later
 
--- the first place names an order, with none before it that is live
-pub record Named (n p : ℕ) (ps : List ℕ) (xs : List Order) : Type 0 where
+-- the first place names an order, with none before it that meets the test
+pub record Named (test : Order → Bool) (n p : ℕ) (ps : List ℕ) (xs : List Order) : Type 0 where
   pub skipped : List Order
   pub order : Order
   pub later : List Order
   pub split : xs ≡ skipped ++ order ∷ later
   pub place : n + length skipped ≡ p
-  pub dead : AreDead skipped
-  pub rest : Name (p + 1) ps later
+  pub out : AreOut test skipped
+  pub rest : Name test (p + 1) ps later
 
-pub next_named : (n p : ℕ) (ps : List ℕ) (xs : List Order) → Name n (p ∷ ps) xs → Named n p ps xs
-next_named n p ps [] h = absurd (grind (arith, h))
-next_named n p ps (x ∷ xs) h =
+pub next_named : (test : Order → Bool) (n p : ℕ) (ps : List ℕ) (xs : List Order) → Name test n (p ∷ ps) xs → Named test n p ps xs
+next_named test n p ps [] h = absurd (grind (arith, h))
+next_named test n p ps (x ∷ xs) h =
     elim h [
       | inl (rest, is, later) ↦
           (let first : p ≡ n = grind (arith, is) in
@@ -169,28 +170,28 @@ next_named n p ps (x ∷ xs) h =
             later = xs;
             split = refl;
             place = omega (arith, first);
-            dead = tt;
-            rest = subst (λ m. Name (m + 1) ps xs) (sym first) (subst (λ qs. Name (n + 1) qs xs) (sym same) later);
+            out = tt;
+            rest = subst (λ m. Name test (m + 1) ps xs) (sym first) (subst (λ qs. Name test (n + 1) qs xs) (sym same) later);
           })
-      | inr (dead, later) ↦
-          (let named : Named (n + 1) p ps xs = next_named (n + 1) p ps xs later in
+      | inr (out, later) ↦
+          (let named : Named test (n + 1) p ps xs = next_named test (n + 1) p ps xs later in
           record {
             skipped = x ∷ named.skipped;
             order = named.order;
             later = named.later;
             split = ap (λ ys. x ∷ ys) named.split;
             place = omega (arith, named.place);
-            dead = (dead, named.dead);
+            out = (out, named.out);
             rest = named.rest;
           })
     ]
 
-pub none_named : (n : ℕ) (xs : List Order) → Name n [] xs → AreDead xs
-none_named n [] h = tt
-none_named n (x ∷ xs) h =
+pub none_named : (test : Order → Bool) (n : ℕ) (xs : List Order) → Name test n [] xs → AreOut test xs
+none_named test n [] h = tt
+none_named test n (x ∷ xs) h =
     elim h [
       | inl (rest, is, later) ↦ absurd (grind (arith, is))
-      | inr (dead, later) ↦ (dead, none_named (n + 1) xs later)
+      | inr (out, later) ↦ (out, none_named test (n + 1) xs later)
     ]
 
 -- places of orders that are not live may go
@@ -210,13 +211,13 @@ kept_here : (n : ℕ) (places rest : List ℕ) (test : ℕ → Bool) (b : Bool) 
 kept_here n places rest test b is here = ap (filter test) is ∙ ap (λ t. cond t (n ∷ filter test rest) (filter test rest)) here
 
 name_kept : (n : ℕ) (places rest : List ℕ) (test : ℕ → Bool) (x : Order) (back : List Order) (b : Bool) → is_live x.state ≡ b → places ≡ n ∷ rest → test n ≡ b
-    → Name (n + 1) (filter test rest) back → Name n (filter test places) (x ∷ back)
+    → Name lives (n + 1) (filter test rest) back → Name lives n (filter test places) (x ∷ back)
 name_kept n places rest test x back true lives is here later = inl (filter test rest, kept_here n places rest test true is here, later)
 name_kept n places rest test x back false dead is here later =
-    inr (dead, subst (λ ps. Name (n + 1) ps back) (sym (kept_here n places rest test false is here)) later)
+    inr (dead, subst (λ ps. Name lives (n + 1) ps back) (sym (kept_here n places rest test false is here)) later)
 
-pub name_filter : (n : ℕ) (places : List ℕ) (whole front back : List Order) → whole ≡ front ++ back → length front ≡ n → Name n places back
-    → Name n (filter (is_live_at whole) places) back
+pub name_filter : (n : ℕ) (places : List ℕ) (whole front back : List Order) → whole ≡ front ++ back → length front ≡ n → Name lives n places back
+    → Name lives n (filter (is_live_at whole) places) back
 name_filter n places whole front [] parts size h = ap (filter (is_live_at whole)) h
 name_filter n places whole front (x ∷ back) parts size h =
     let after : whole ≡ (front ++ x ∷ []) ++ back = parts ∙ sym (joined front x back) in
@@ -250,6 +251,15 @@ count_set (x ∷ xs) zero old o at unfilled =
     omega (arith, count_cons (is_filled x.state) x xs, count_cons (is_filled o.state) o xs, was)
 count_set (x ∷ xs) (suc k) old o at unfilled =
     omega (arith, count_cons (is_filled x.state) x xs, count_cons (is_filled x.state) x (set xs k o), count_set xs k old o at unfilled)
+
+pub count_same : (xs : List Order) (k : ℕ) (old o : Order) → slice_get xs k ≡ Some old → o.state ≡ old.state → filled_count (set xs k o) ≡ filled_count xs
+count_same [] k old o at same = absurd (none-some old at)
+count_same (x ∷ xs) zero old o at same =
+    let alike : filled_one (is_filled o.state) ≡ filled_one (is_filled x.state) =
+    ap (λ state. filled_one (is_filled state)) same ∙ ap (λ (y : Order). filled_one (is_filled y.state)) (sym (same_Some x old at)) in
+    omega (arith, count_cons (is_filled x.state) x xs, count_cons (is_filled o.state) o xs, alike)
+count_same (x ∷ xs) (suc k) old o at same =
+    omega (arith, count_cons (is_filled x.state) x xs, count_cons (is_filled x.state) x (set xs k o), count_same xs k old o at same)
 
 one_at_most : (b : Bool) → filled_one b ≤ 1
 one_at_most true = omega arith

@@ -30,14 +30,14 @@ use Rattle.clock_book.specs.Fitting.{most_orders}
 use Rattle.clock_book.specs.Handled.{Handled, said, handled_mark, handled_match, market_submit}
 use Rattle.clock_book.specs.Matches.{match_event}
 use Rattle.clock_book.specs.Submits.{fee_of, fill_at, market_fill, power_of, order_for}
-use Rattle.order_book.specs.Filling.{filling, after_try, said_of}
+use Rattle.order_book.specs.Filling.{after_try, said_of}
 use Rattle.order_book.specs.Judged.{made_order}
 use Rattle.order_book.specs.Kept.{Kept}
 use Rattle.order_book.specs.Serves.{Serves}
 use Rattle.order_book.specs.Stands.{StandsFor}
 use Rattle.order_book.specs.Tries.{HasFills, Tries}
 use Rattle.order_book.specs.declared.ledger.Ledger.{Ledger}
-use Rattle.order_book.proofs.StandsLemmas.{stands_changed, stands_mark, stands_match, filter_map_same, filter_map_length, said_same}
+use Rattle.order_book.proofs.StandsLemmas.{trial_of, stands_changed, stands_mark, stands_match, filter_map_same, filter_map_length, said_same}
 
 pub on_ok : {A E : Type 0} (r : Result A E) {P Q : Type 0} → (P → Q) → OnOk r P → OnOk r Q
 on_ok (Ok a) f h = f h
@@ -108,32 +108,32 @@ serves_mark old new symbol bar before after costs leverage hours orders fills ac
 pub serves_match : (old new : Kept) (first last : Ledger) (at : Moment) (before between after : List Reply)
     → new.costs ≡ old.costs → new.leverage ≡ old.leverage → new.hours ≡ old.hours → new.bars ≡ [] → new.account ≡ last.portfolio → new.orders ≡ last.orders.items
     → new.fills ≡ last.fills.items → old.account ≡ first.portfolio → old.orders ≡ first.orders.items → old.fills ≡ first.fills.items → length old.orders ≤ most_orders
-    → Tries (filling old.costs old.hours old.bars) at [] first.orders.items [] first last before between
+    → Tries (trial_of old) at [] first.orders.items [] first last before between
     → after ≡ between ++ Done ∷ [] → Serves (λ book. handled_match book at) 0 old new before after
 serves_match old new first last at before between after costs leverage hours bars account orders fills account_was orders_was fills_was few tries said =
-    let f : Order → Option Fill = filling old.costs old.hours old.bars in
-    let orders_are : new.orders ≡ map (after_try f) old.orders =
-    orders ∙ tries.orders ∙ append-nil (map (after_try f) first.orders.items) ∙ ap (map (after_try f)) (sym orders_was) in
+    let f : Order → Option Fill = (trial_of old).fill in
+    let orders_are : new.orders ≡ map (after_try (trial_of old)) old.orders =
+    orders ∙ tries.orders ∙ append-nil (map (after_try (trial_of old)) first.orders.items) ∙ ap (map (after_try (trial_of old))) (sym orders_was) in
     let fills_are : new.fills ≡ old.fills ++ filter_map f old.orders =
     fills ∙ tries.fills ∙ ap (λ xs. first.fills.items ++ filter_map f xs) (sym orders_was) ∙ ap (λ xs. xs ++ filter_map f old.orders) (sym fills_was) in
     let more : HasFills (filter_map f old.orders) old.account new.account =
     subst (λ xs. HasFills (filter_map f xs) old.account new.account) (sym orders_was)
     (subst (λ x. HasFills (filter_map f first.orders.items) x new.account) (sym account_was)
     (subst (λ x. HasFills (filter_map f first.orders.items) first.portfolio x) (sym account) tries.account)) in
-    let told : after ≡ before ++ (filter_map (said_of f at) old.orders ++ Done ∷ []) =
-    said ∙ ap (λ xs. xs ++ Done ∷ []) (tries.replies ∙ ap (λ xs. before ++ filter_map (said_of f at) xs) (sym orders_was))
-    ∙ append_assoc before (filter_map (said_of f at) old.orders) (Done ∷ []) in
+    let told : after ≡ before ++ (filter_map (said_of (trial_of old) at) old.orders ++ Done ∷ []) =
+    said ∙ ap (λ xs. xs ++ Done ∷ []) (tries.replies ∙ ap (λ xs. before ++ filter_map (said_of (trial_of old) at) xs) (sym orders_was))
+    ∙ append_assoc before (filter_map (said_of (trial_of old) at) old.orders) (Done ∷ []) in
     record {
       stands = λ book stands. stands_match old new book stands costs leverage hours bars orders_are fills_are more;
       replies = λ book stands. told
           ∙ ap (λ xs. before ++ (xs ++ Done ∷ []))
-          (filter_map_same (said_of f at) (match_event book at) (said_same old book stands at) old.orders ∙ ap (filter_map (match_event book at)) stands.orders);
+          (filter_map_same (said_of (trial_of old) at) (match_event book at) (said_same old book stands at) old.orders ∙ ap (filter_map (match_event book at)) stands.orders);
       grows = (
-        filter_map (said_of f at) old.orders ++ Done ∷ [],
+        filter_map (said_of (trial_of old) at) old.orders ++ Done ∷ [],
         told,
-        omega (arith, few, filter_map_length (said_of f at) old.orders, length-append (filter_map (said_of f at) old.orders) (Done ∷ [])),
+        omega (arith, few, filter_map_length (said_of (trial_of old) at) old.orders, length-append (filter_map (said_of (trial_of old) at) old.orders) (Done ∷ [])),
       );
-      count = omega (arith, ap length orders_are, length-map old.orders (after_try f));
+      count = omega (arith, ap length orders_are, length-map old.orders (after_try (trial_of old)));
     }
 
 -- ---- an order that is filled at once
@@ -142,7 +142,7 @@ pub serves_trade : (old new : Kept) (at : Moment) (request : Request) (price : �
     → new.costs ≡ old.costs → new.leverage ≡ old.leverage → new.hours ≡ old.hours → new.bars ≡ old.bars → HasFills (fill ∷ []) old.account new.account
     → new.fills ≡ old.fills ++ fill ∷ [] → new.orders ≡ old.orders ++ made_order (length old.orders + 1) at request Market Filled ∷ []
     → fill ≡ fill_at old.costs request.symbol request.quantity.0 (slipped old.costs price (side_of request.quantity.0))
-    → after ≡ before ++ said at (length old.orders + 1) request.symbol (what.Submitted Market request.quantity None)
+    → after ≡ before ++ said at (length old.orders + 1) request.symbol (what.Submitted Market request.quantity None None)
     ∷ said at (length old.orders + 1) request.symbol (what.Filled fill) ∷ Done ∷ []
     → Serves (λ book. market_submit book at request price) 1 old new before after
 serves_trade old new at request price fill before after costs leverage hours bars account fills orders fill_is told = record {
@@ -154,12 +154,12 @@ serves_trade old new at request price fill before after costs leverage hours bar
       (orders ∙ ap (λ os. os ++ made_order (length os + 1) at request Market Filled ∷ []) stands.orders);
   replies = λ book stands.
       told
-      ∙ ap (λ os. before ++ said at (length os + 1) request.symbol (what.Submitted Market request.quantity None)
+      ∙ ap (λ os. before ++ said at (length os + 1) request.symbol (what.Submitted Market request.quantity None None)
       ∷ said at (length os + 1) request.symbol (what.Filled fill) ∷ Done ∷ []) stands.orders
-      ∙ ap (λ f. before ++ said at (length book.orders + 1) request.symbol (what.Submitted Market request.quantity None)
+      ∙ ap (λ f. before ++ said at (length book.orders + 1) request.symbol (what.Submitted Market request.quantity None None)
       ∷ said at (length book.orders + 1) request.symbol (what.Filled f) ∷ Done ∷ []) (market book stands);
   grows = (
-    said at (length old.orders + 1) request.symbol (what.Submitted Market request.quantity None)
+    said at (length old.orders + 1) request.symbol (what.Submitted Market request.quantity None None)
         ∷ said at (length old.orders + 1) request.symbol (what.Filled fill) ∷ Done ∷ [],
     told,
     omega arith,

@@ -3,7 +3,7 @@ use Rattle.std.proofs.Common.{◌≡◌, ℕ, ◌+◌, ◌≤◌, Bool, true, fa
 use Rattle.std.specs.Prelude.{ℤ, is_some, if◌then◌else◌, option_map, option_and_then}
 use Rattle.std.specs.List.{filter_map, cons_option}
 use Rattle.std.specs.Map.{lookup}
-use Rattle.std.specs.Option.{option_or}
+use Rattle.std.specs.Option.{option_or, option_map_or}
 use Rattle.std.proofs.lemmas.List.{map-append, drop-append-le, drop_all, length-append}
 use Rattle.lean_fixed.specs.declared.time.Moment.{Moment}
 use Rattle.lean_orders.specs.declared.desk.PriceBar.{PriceBar}
@@ -13,10 +13,10 @@ use Rattle.lean_orders.specs.declared.order.OrderState.TheVariants.{Filled}
 use Rattle.portfolio.specs.Stands as accounts
 use Rattle.portfolio.specs.Sums.{Mark}
 use Rattle.portfolio.specs.Symbols.{same_symbol}
-use Rattle.clock_book.specs.Books.{BarMark, Book, price_mark, price_marks, last_real_bar, bar_to_try, is_live}
+use Rattle.clock_book.specs.Books.{BarMark, Book, price_mark, price_marks, last_real_bar, is_live}
 use Rattle.clock_book.specs.Handled.{with_mark}
-use Rattle.clock_book.specs.Matches.{matched, after_match, match_event, in_state, filled_event, book_after_match}
-use Rattle.order_book.specs.Filling.{fill_on, filling, after_try, said_of}
+use Rattle.clock_book.specs.Matches.{bar_of, set_off, fill_on, after_trigger, matched, after_match, match_event, in_state, filled_event, book_after_match}
+use Rattle.order_book.specs.Filling.{Trial, bar_kept, trial, after_try, said_of}
 use Rattle.order_book.specs.Kept.{Kept}
 use Rattle.order_book.specs.Stands.{StandsFor}
 use Rattle.order_book.specs.Tries.{HasFills}
@@ -25,17 +25,7 @@ use Rattle.order_book.specs.Tries.{HasFills}
 
 -- a book with other orders and fills
 abbrev pub changed : Book → List Order → List Fill → Book
-changed book orders fills =
-    record {
-      start = book.start;
-      costs = book.costs;
-      leverage = book.leverage;
-      hours = book.hours;
-      marks = book.marks;
-      orders = orders;
-      fills = fills;
-      tried = book.tried;
-    }
+changed book orders fills = record book { orders = orders; fills = fills }
 
 pub stands_changed : (old new : Kept) (book : Book) (orders : List Order) (more all : List Fill) → StandsFor old book → all ≡ book.fills ++ more
     → new.costs ≡ old.costs → new.leverage ≡ old.leverage → new.hours ≡ old.hours → new.bars ≡ old.bars
@@ -100,12 +90,22 @@ stands_mark old new book mark stands costs leverage hours orders fills account b
 
 -- ---- a match
 
--- what the kept bars fill is what the marks fill
-pub filling_matched : (kept : Kept) (book : Book) → StandsFor kept book → (o : Order) → filling kept.costs kept.hours kept.bars o ≡ matched book o
-filling_matched kept book stands o =
-    ap (λ bar. if is_live o.state then option_and_then (fill_on kept.costs kept.hours o) bar else None) (stands.bars o.symbol)
-    ∙ ap (λ costs. if is_live o.state then option_and_then (fill_on costs kept.hours o) (bar_to_try book o.symbol) else None) stands.costs
-    ∙ ap (λ hours. if is_live o.state then option_and_then (fill_on book.costs hours o) (bar_to_try book o.symbol) else None) stands.hours
+-- the bars that are kept try orders as the marks do
+abbrev pub trial_of : Kept → Trial
+trial_of kept = trial kept.costs kept.hours kept.bars
+
+bar_same : (kept : Kept) (book : Book) → StandsFor kept book → (o : Order) → bar_kept kept.bars o ≡ bar_of book o
+bar_same kept book stands o = ap (λ bar. if is_live o.state then bar else None) (stands.bars o.symbol)
+
+fill_same : (kept : Kept) (book : Book) → StandsFor kept book → (o : Order) → (trial_of kept).fill o ≡ matched book o
+fill_same kept book stands o =
+    ap (option_and_then (fill_on kept.costs kept.hours o)) (bar_same kept book stands o)
+    ∙ (λ i. option_and_then (fill_on (stands.costs i) (stands.hours i) o) (bar_of book o))
+
+first_same : (kept : Kept) (book : Book) → StandsFor kept book → (o : Order) → (trial_of kept).first o ≡ after_trigger book o
+first_same kept book stands o =
+    ap (λ bar. option_map_or (set_off kept.hours o) bar o) (bar_same kept book stands o)
+    ∙ ap (λ hours. option_map_or (set_off hours o) (bar_of book o) o) stands.hours
 
 pub map_same : {X Y : Type 0} (f g : X → Y) → ((x : X) → f x ≡ g x) → (xs : List X) → map f xs ≡ map g xs
 map_same f g h xs = λ i. map (λ x. h x i) xs
@@ -113,23 +113,21 @@ map_same f g h xs = λ i. map (λ x. h x i) xs
 pub filter_map_same : {X Y : Type 0} (f g : X → Option Y) → ((x : X) → f x ≡ g x) → (xs : List X) → filter_map f xs ≡ filter_map g xs
 filter_map_same f g h xs = λ i. filter_map (λ x. h x i) xs
 
-pub after_same : (kept : Kept) (book : Book) → StandsFor kept book → (o : Order) → after_try (filling kept.costs kept.hours kept.bars) o ≡ after_match book o
-after_same kept book stands o = ap (λ found. if is_some found then in_state Filled o else o) (filling_matched kept book stands o)
+after_same : (kept : Kept) (book : Book) → StandsFor kept book → (o : Order) → after_try (trial_of kept) o ≡ after_match book o
+after_same kept book stands o = λ i. if is_some (fill_same kept book stands o i) then in_state Filled (first_same kept book stands o i) else first_same kept book stands o i
 
-pub said_same : (kept : Kept) (book : Book) → StandsFor kept book → (at : Moment) (o : Order)
-    → said_of (filling kept.costs kept.hours kept.bars) at o ≡ match_event book at o
-said_same kept book stands at o = ap (option_map (filled_event at o)) (filling_matched kept book stands o)
+pub said_same : (kept : Kept) (book : Book) → StandsFor kept book → (at : Moment) (o : Order) → said_of (trial_of kept) at o ≡ match_event book at o
+said_same kept book stands at o = ap (option_map (filled_event at o)) (fill_same kept book stands o)
 
 pub stands_match : (old new : Kept) (book : Book) → StandsFor old book
     → new.costs ≡ old.costs → new.leverage ≡ old.leverage → new.hours ≡ old.hours → new.bars ≡ []
-    → new.orders ≡ map (after_try (filling old.costs old.hours old.bars)) old.orders
-    → new.fills ≡ old.fills ++ filter_map (filling old.costs old.hours old.bars) old.orders
-    → HasFills (filter_map (filling old.costs old.hours old.bars) old.orders) old.account new.account
+    → new.orders ≡ map (after_try (trial_of old)) old.orders
+    → new.fills ≡ old.fills ++ filter_map (trial_of old).fill old.orders
+    → HasFills (filter_map (trial_of old).fill old.orders) old.account new.account
     → StandsFor new (book_after_match book)
 stands_match old new book stands costs leverage hours bars orders fills account =
-    let found : filter_map (filling old.costs old.hours old.bars) old.orders ≡ filter_map (matched book) book.orders =
-    filter_map_same (filling old.costs old.hours old.bars) (matched book) (filling_matched old book stands) old.orders
-    ∙ ap (filter_map (matched book)) stands.orders in
+    let found : filter_map (trial_of old).fill old.orders ≡ filter_map (matched book) book.orders =
+    filter_map_same (trial_of old).fill (matched book) (fill_same old book stands) old.orders ∙ ap (filter_map (matched book)) stands.orders in
     record {
       costs = costs ∙ stands.costs;
       leverage = leverage ∙ stands.leverage;
@@ -137,9 +135,9 @@ stands_match old new book stands costs leverage hours bars orders fills account 
       account = subst (λ fs. accounts.StandsFor new.account book.start (book.fills ++ fs) (price_marks book)) found
           (account book.start book.fills (price_marks book) stands.account);
       orders =
-          orders ∙ map_same (after_try (filling old.costs old.hours old.bars)) (after_match book) (after_same old book stands) old.orders
+          orders ∙ map_same (after_try (trial_of old)) (after_match book) (after_same old book stands) old.orders
           ∙ ap (map (after_match book)) stands.orders;
-      fills = fills ∙ ap (λ fs. fs ++ filter_map (filling old.costs old.hours old.bars) old.orders) stands.fills ∙ ap (λ fs. book.fills ++ fs) found;
+      fills = fills ∙ ap (λ fs. fs ++ filter_map (trial_of old).fill old.orders) stands.fills ∙ ap (λ fs. book.fills ++ fs) found;
       bars = λ symbol. ap (lookup (same_symbol symbol)) bars ∙ sym (ap (last_real_bar symbol) (drop_all (length book.marks) book.marks (omega arith)));
       tried = omega arith;
     }

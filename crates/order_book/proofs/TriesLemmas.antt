@@ -1,6 +1,7 @@
 -- A match, order after order.
-use Rattle.std.proofs.Common.{◌≡◌, ℕ, ◌+◌, ◌<◌, false, List, [], ◌∷◌, ◌++◌, length, map, drop, set, get_or, Option, Some, None, refl, sym, ap, subst, ◌∙◌, arith, append-nil}
+use Rattle.std.proofs.Common.{◌≡◌, ℕ, ◌+◌, ◌<◌, false, List, [], ◌∷◌, ◌++◌, length, map, drop, set, get_or, Bool, Option, Some, None, refl, sym, ap, subst, ◌∙◌, arith, append-nil}
 use Rattle.std.specs.Prelude.{is_some, if◌then◌else◌, option_map, option_and_then}
+use Rattle.std.specs.Option.{option_map_or}
 use Rattle.std.specs.List.{filter_map, cons_option}
 use Rattle.std.proofs.lemmas.List.{map-append, append_assoc, length-append, length-map, get_or_at, set_at, drop_more}
 use Rattle.std.proofs.lemmas.List.Elements.{filter_map-append}
@@ -16,32 +17,33 @@ use Rattle.lean_orders.specs.declared.order.Order.{Order}
 use Rattle.portfolio.specs.Account.{held}
 use Rattle.portfolio.specs.Stands.{StandsFor}
 use Rattle.lean_orders.specs.declared.order.OrderState.TheVariants.{Filled}
-use Rattle.clock_book.specs.Books.{is_live}
-use Rattle.clock_book.specs.Matches.{in_state, filled_event}
+use Rattle.clock_book.specs.Matches.{set_off, fill_on, in_state, filled_event}
 use Rattle.order_book.specs.declared.ledger.Ledger.{Ledger}
-use Rattle.order_book.specs.Filling.{fill_on, filling, after_try, said_of}
-use Rattle.order_book.specs.Resting.{Name}
+use Rattle.order_book.specs.Filling.{Trial, trial, after_try, said_of}
+use Rattle.order_book.specs.Resting.{Name, lives}
 use Rattle.order_book.specs.Tries.{HasFills, Tries}
-use Rattle.order_book.proofs.OrderLemmas.{AreDead, Named, next_named, none_named, joined}
+use Rattle.order_book.proofs.OrderLemmas.{AreOut, Named, next_named, none_named, joined}
 
--- a way of filling that fills live orders alone
-abbrev pub FillsLive : (Order → Option Fill) → Type 0
-FillsLive fill = (o : Order) → is_live o.state ≡ false → fill o ≡ None
+-- a trial leaves all orders as they are that don't meet a test
+pub record Passes (trial : Trial) (test : Order → Bool) : Type 0 where
+  pub none : (o : Order) → test o ≡ false → trial.fill o ≡ None
+  pub same : (o : Order) → test o ≡ false → trial.first o ≡ o
 
-after_none : (fill : Order → Option Fill) (o : Order) → fill o ≡ None → after_try fill o ≡ o
-after_none fill o e = ap (λ found. if is_some found then in_state Filled o else o) e
+after_none : (trial : Trial) (test : Order → Bool) → Passes trial test → (o : Order) → test o ≡ false → after_try trial o ≡ o
+after_none trial test passes o out =
+    ap (λ found. if is_some found then in_state Filled (trial.first o) else trial.first o) (passes.none o out) ∙ passes.same o out
 
-dead_map : (fill : Order → Option Fill) → FillsLive fill → (xs : List Order) → AreDead xs → map (after_try fill) xs ≡ xs
-dead_map fill lives [] h = refl
-dead_map fill lives (x ∷ xs) h =
-    ap (λ y. y ∷ map (after_try fill) xs) (after_none fill x (lives x h.0)) ∙ ap (λ ys. x ∷ ys) (dead_map fill lives xs h.1)
+out_map : (trial : Trial) (test : Order → Bool) → Passes trial test → (xs : List Order) → AreOut test xs → map (after_try trial) xs ≡ xs
+out_map trial test passes [] h = refl
+out_map trial test passes (x ∷ xs) h =
+    ap (λ y. y ∷ map (after_try trial) xs) (after_none trial test passes x h.0) ∙ ap (λ ys. x ∷ ys) (out_map trial test passes xs h.1)
 
-dead_none : {Y : Type 0} (h : Order → Option Y) → ((o : Order) → is_live o.state ≡ false → h o ≡ None) → (xs : List Order) → AreDead xs → filter_map h xs ≡ []
-dead_none h none [] dead = refl
-dead_none h none (x ∷ xs) dead = ap (λ found. cons_option found (filter_map h xs)) (none x dead.0) ∙ dead_none h none xs dead.1
+out_none : {Y : Type 0} (test : Order → Bool) (h : Order → Option Y) → ((o : Order) → test o ≡ false → h o ≡ None) → (xs : List Order) → AreOut test xs → filter_map h xs ≡ []
+out_none test h none [] out = refl
+out_none test h none (x ∷ xs) out = ap (λ found. cons_option found (filter_map h xs)) (none x out.0) ∙ out_none test h none xs out.1
 
-says_live : (fill : Order → Option Fill) (at : Moment) → FillsLive fill → (o : Order) → is_live o.state ≡ false → said_of fill at o ≡ None
-says_live fill at lives o dead = ap (option_map (filled_event at o)) (lives o dead)
+says_none : (trial : Trial) (test : Order → Bool) (at : Moment) → Passes trial test → (o : Order) → test o ≡ false → said_of trial at o ≡ None
+says_none trial test at passes o out = ap (option_map (filled_event at o)) (passes.none o out)
 
 -- what the orders between give nothing of
 pub given_more : {Y : Type 0} (h : Order → Option Y) (x : List Y) (done skipped : List Order) (o : Order) → filter_map h skipped ≡ []
@@ -63,22 +65,22 @@ map_more f done skipped o same =
     ∙ ap (λ ys. map f done ++ ys) (sym (map-append f skipped (o ∷ []) ∙ ap (λ ys. ys ++ f o ∷ []) same))
     ∙ sym (map-append f done (skipped ++ o ∷ []))
 
--- a fill of one order
-pub tries_one : (fill : Order → Option Fill) (at : Moment) (front back : List Order) (o order : Order) (place : ℕ) (found : Fill) (first last : Ledger) (before after : List Reply)
-    → first.orders.items ≡ front ++ o ∷ back → length front ≡ place → order ≡ get_or first.orders.items place order → fill order ≡ Some found
-    → last.orders.items ≡ set first.orders.items place (in_state Filled order) → last.fills.items ≡ first.fills.items ++ found ∷ []
+-- a trial of one order
+pub tries_one : (trial : Trial) (at : Moment) (front back : List Order) (o order : Order) (place : ℕ) (found : Fill) (first last : Ledger) (before after : List Reply)
+    → first.orders.items ≡ front ++ o ∷ back → length front ≡ place → order ≡ get_or first.orders.items place order → trial.fill order ≡ Some found
+    → last.orders.items ≡ set first.orders.items place (in_state Filled (trial.first order)) → last.fills.items ≡ first.fills.items ++ found ∷ []
     → last.live.items ≡ first.live.items → HasFills (found ∷ []) first.portfolio last.portfolio → held last.portfolio ≡ held first.portfolio
-    → after ≡ before ++ filled_event at order found ∷ [] → Tries fill at front (o ∷ []) back first last before after
-tries_one fill at front back o order place found first last before after split size read fills orders more live account same said =
+    → after ≡ before ++ filled_event at order found ∷ [] → Tries trial at front (o ∷ []) back first last before after
+tries_one trial at front back o order place found first last before after split size read fills orders more live account same said =
     let is : order ≡ o = read ∙ ap (λ xs. get_or xs place order) split ∙ get_or_at front o back order place size in
-    let fills_o : fill o ≡ Some found = ap fill (sym is) ∙ fills in
-    let given : filter_map fill (o ∷ []) ≡ found ∷ [] = ap (λ f. cons_option f []) fills_o in
-    let told : filter_map (said_of fill at) (o ∷ []) ≡ filled_event at o found ∷ [] = ap (λ f. cons_option (option_map (filled_event at o) f) []) fills_o in
-    let later : after_try fill o ≡ in_state Filled o = ap (λ f. if is_some f then in_state Filled o else o) fills_o in
+    let fills_o : trial.fill o ≡ Some found = ap trial.fill (sym is) ∙ fills in
+    let given : filter_map trial.fill (o ∷ []) ≡ found ∷ [] = ap (λ f. cons_option f []) fills_o in
+    let told : filter_map (said_of trial at) (o ∷ []) ≡ filled_event at o found ∷ [] = ap (λ f. cons_option (option_map (filled_event at o) f) []) fills_o in
+    let later : after_try trial o ≡ in_state Filled (trial.first o) = ap (λ f. if is_some f then in_state Filled (trial.first o) else trial.first o) fills_o in
     record {
       orders =
-          orders ∙ ap (λ xs. set xs place (in_state Filled order)) split ∙ set_at front o back (in_state Filled order) place size
-          ∙ ap (λ x. front ++ in_state Filled x ∷ back) is ∙ ap (λ x. front ++ x ∷ back) (sym later) ∙ sym (joined front (after_try fill o) back);
+          orders ∙ ap (λ xs. set xs place (in_state Filled (trial.first order))) split ∙ set_at front o back (in_state Filled (trial.first order)) place size
+          ∙ ap (λ x. front ++ in_state Filled (trial.first x) ∷ back) is ∙ ap (λ x. front ++ x ∷ back) (sym later) ∙ sym (joined front (after_try trial o) back);
       fills = more ∙ ap (λ fs. first.fills.items ++ fs) (sym given);
       account = subst (λ fs. HasFills fs first.portfolio last.portfolio) (sym given) account;
       held = same;
@@ -86,54 +88,78 @@ tries_one fill at front back o order place found first last before after split s
       replies = said ∙ ap (λ x. before ++ filled_event at x found ∷ []) is ∙ ap (λ rs. before ++ rs) (sym told);
     }
 
-pub tries_more : (fill : Order → Option Fill) (at : Moment) → FillsLive fill → (done skipped : List Order) (o : Order) (later : List Order)
-    (first middle last : Ledger) (before between after : List Reply) → Tries fill at [] done (skipped ++ o ∷ later) first middle before between → AreDead skipped
-    → Tries fill at (map (after_try fill) done ++ skipped) (o ∷ []) later middle last between after
-    → Tries fill at [] (done ++ (skipped ++ o ∷ [])) later first last before after
-tries_more fill at lives done skipped o later first middle last before between after one dead two = record {
+-- one that fills nothing
+pub tries_first : (trial : Trial) (at : Moment) (front back : List Order) (o order : Order) (place : ℕ) (first last : Ledger) (said : List Reply)
+    → first.orders.items ≡ front ++ o ∷ back → length front ≡ place → order ≡ get_or first.orders.items place order → trial.fill order ≡ None
+    → last.orders.items ≡ set first.orders.items place (trial.first order) → last.fills.items ≡ first.fills.items
+    → last.live.items ≡ first.live.items → last.portfolio ≡ first.portfolio → Tries trial at front (o ∷ []) back first last said said
+tries_first trial at front back o order place first last said split size read none orders fills live account =
+    let is : order ≡ o = read ∙ ap (λ xs. get_or xs place order) split ∙ get_or_at front o back order place size in
+    let none_o : trial.fill o ≡ None = ap trial.fill (sym is) ∙ none in
+    let given : filter_map trial.fill (o ∷ []) ≡ [] = ap (λ f. cons_option f []) none_o in
+    let told : filter_map (said_of trial at) (o ∷ []) ≡ [] = ap (λ f. cons_option (option_map (filled_event at o) f) []) none_o in
+    let later : after_try trial o ≡ trial.first o = ap (λ f. if is_some f then in_state Filled (trial.first o) else trial.first o) none_o in
+    record {
+      orders =
+          orders ∙ ap (λ xs. set xs place (trial.first order)) split ∙ set_at front o back (trial.first order) place size
+          ∙ ap (λ x. front ++ trial.first x ∷ back) is ∙ ap (λ x. front ++ x ∷ back) (sym later) ∙ sym (joined front (after_try trial o) back);
+      fills = fills ∙ sym (append-nil first.fills.items) ∙ ap (λ fs. first.fills.items ++ fs) (sym given);
+      account = λ start earlier marks stands.
+          subst (λ a. StandsFor a start (earlier ++ filter_map trial.fill (o ∷ [])) marks) (sym account)
+          (subst (λ fs. StandsFor first.portfolio start fs marks) (sym (append-nil earlier) ∙ ap (λ fs. earlier ++ fs) (sym given)) stands);
+      held = ap held account;
+      live = live;
+      replies = sym (append-nil said) ∙ ap (λ rs. said ++ rs) (sym told);
+    }
+
+pub tries_more : (trial : Trial) (test : Order → Bool) (at : Moment) → Passes trial test → (done skipped : List Order) (o : Order) (later : List Order)
+    (first middle last : Ledger) (before between after : List Reply) → Tries trial at [] done (skipped ++ o ∷ later) first middle before between → AreOut test skipped
+    → Tries trial at (map (after_try trial) done ++ skipped) (o ∷ []) later middle last between after
+    → Tries trial at [] (done ++ (skipped ++ o ∷ [])) later first last before after
+tries_more trial test at passes done skipped o later first middle last before between after one out two = record {
   orders =
-      two.orders ∙ ap (λ ys. ys ++ later) (map_more (after_try fill) done skipped o (dead_map fill lives skipped dead));
+      two.orders ∙ ap (λ ys. ys ++ later) (map_more (after_try trial) done skipped o (out_map trial test passes skipped out));
   fills =
-      two.fills ∙ ap (λ ys. ys ++ filter_map fill (o ∷ [])) one.fills
-      ∙ given_more fill first.fills.items done skipped o (dead_none fill lives skipped dead);
+      two.fills ∙ ap (λ ys. ys ++ filter_map trial.fill (o ∷ [])) one.fills
+      ∙ given_more trial.fill first.fills.items done skipped o (out_none test trial.fill passes.none skipped out);
   account = λ start earlier marks stands. subst (λ fills. StandsFor last.portfolio start fills marks)
-      (given_more fill earlier done skipped o (dead_none fill lives skipped dead))
-      (two.account start (earlier ++ filter_map fill done) marks (one.account start earlier marks stands));
+      (given_more trial.fill earlier done skipped o (out_none test trial.fill passes.none skipped out))
+      (two.account start (earlier ++ filter_map trial.fill done) marks (one.account start earlier marks stands));
   held = two.held ∙ one.held;
   live = two.live ∙ one.live;
   replies =
-      two.replies ∙ ap (λ ys. ys ++ filter_map (said_of fill at) (o ∷ [])) one.replies
-      ∙ given_more (said_of fill at) before done skipped o (dead_none (said_of fill at) (says_live fill at lives) skipped dead);
+      two.replies ∙ ap (λ ys. ys ++ filter_map (said_of trial at) (o ∷ [])) one.replies
+      ∙ given_more (said_of trial at) before done skipped o (out_none test (said_of trial at) (says_none trial test at passes) skipped out);
 }
 
-pub tries_end : (fill : Order → Option Fill) (at : Moment) → FillsLive fill → (whole done rest : List Order) (first last : Ledger) (before after : List Reply)
-    → whole ≡ done ++ rest → Tries fill at [] done rest first last before after → AreDead rest → Tries fill at [] whole [] first last before after
-tries_end fill at lives whole done rest first last before after split tries dead =
-    subst (λ xs. Tries fill at [] xs [] first last before after) (sym split) (record {
+pub tries_end : (trial : Trial) (test : Order → Bool) (at : Moment) → Passes trial test → (whole done rest : List Order) (first last : Ledger) (before after : List Reply)
+    → whole ≡ done ++ rest → Tries trial at [] done rest first last before after → AreOut test rest → Tries trial at [] whole [] first last before after
+tries_end trial test at passes whole done rest first last before after split tries out =
+    subst (λ xs. Tries trial at [] xs [] first last before after) (sym split) (record {
       orders =
-          tries.orders ∙ sym (append-nil (map (after_try fill) (done ++ rest))
-          ∙ map-append (after_try fill) done rest ∙ ap (λ ys. map (after_try fill) done ++ ys) (dead_map fill lives rest dead));
-      fills = tries.fills ∙ given_end fill first.fills.items done rest (dead_none fill lives rest dead);
+          tries.orders ∙ sym (append-nil (map (after_try trial) (done ++ rest))
+          ∙ map-append (after_try trial) done rest ∙ ap (λ ys. map (after_try trial) done ++ ys) (out_map trial test passes rest out));
+      fills = tries.fills ∙ given_end trial.fill first.fills.items done rest (out_none test trial.fill passes.none rest out);
       account = λ start earlier marks stands. subst (λ fills. StandsFor last.portfolio start fills marks)
-          (given_end fill earlier done rest (dead_none fill lives rest dead))
+          (given_end trial.fill earlier done rest (out_none test trial.fill passes.none rest out))
           (tries.account start earlier marks stands);
       held = tries.held;
       live = tries.live;
-      replies = tries.replies ∙ given_end (said_of fill at) before done rest (dead_none (said_of fill at) (says_live fill at lives) rest dead);
+      replies = tries.replies ∙ given_end (said_of trial at) before done rest (out_none test (said_of trial at) (says_none trial test at passes) rest out);
     })
 
 -- ---- the loop
 
--- the first places of the live orders were tried
-pub record Tried (fill : Order → Option Fill) (at : Moment) (first now : Ledger) (before after : List Reply) (i : ℕ) : Type 0 where
+-- the orders at the first of some places were tried
+pub record Tried (trial : Trial) (test : Order → Bool) (at : Moment) (places : List ℕ) (first now : Ledger) (before after : List Reply) (i : ℕ) : Type 0 where
   pub done : List Order
   pub rest : List Order
   pub split : first.orders.items ≡ done ++ rest
-  pub tries : Tries fill at [] done rest first now before after
-  pub names : Name (length done) (drop i first.live.items) rest
+  pub tries : Tries trial at [] done rest first now before after
+  pub names : Name test (length done) (drop i places) rest
 
 -- the order that a place names, and those around it
-pub record Next (fill : Order → Option Fill) (now : Ledger) (place : ℕ) : Type 0 where
+pub record Next (now : Ledger) (place : ℕ) : Type 0 where
   pub front : List Order
   pub order : Order
   pub back : List Order
@@ -143,34 +169,34 @@ pub record Next (fill : Order → Option Fill) (now : Ledger) (place : ℕ) : Ty
 front_length : (f : Order → Order) (done skipped : List Order) → length (map f done ++ skipped) ≡ length done + length skipped
 front_length f done skipped = omega (arith, length-append (map f done) skipped, length-map done f)
 
-pub tried_next : (fill : Order → Option Fill) (at : Moment) (first now : Ledger) (before after : List Reply) (i place : ℕ) (places : List ℕ)
-    → Tried fill at first now before after i → drop i first.live.items ≡ place ∷ places → Next fill now place
-tried_next fill at first now before after i place places tried is =
-    let named : Named (length tried.done) place places tried.rest =
-    next_named (length tried.done) place places tried.rest (subst (λ ps. Name (length tried.done) ps tried.rest) is tried.names) in
+pub tried_next : (trial : Trial) (test : Order → Bool) (at : Moment) (whole : List ℕ) (first now : Ledger) (before after : List Reply) (i place : ℕ) (places : List ℕ)
+    → Tried trial test at whole first now before after i → drop i whole ≡ place ∷ places → Next now place
+tried_next trial test at whole first now before after i place places tried is =
+    let named : Named test (length tried.done) place places tried.rest =
+    next_named test (length tried.done) place places tried.rest (subst (λ ps. Name test (length tried.done) ps tried.rest) is tried.names) in
     record {
-      front = map (after_try fill) tried.done ++ named.skipped;
+      front = map (after_try trial) tried.done ++ named.skipped;
       order = named.order;
       back = named.later;
       split =
-          tried.tries.orders ∙ ap (λ ys. map (after_try fill) tried.done ++ ys) named.split
-          ∙ sym (append_assoc (map (after_try fill) tried.done) named.skipped (named.order ∷ named.later));
-      place_is = front_length (after_try fill) tried.done named.skipped ∙ named.place;
+          tried.tries.orders ∙ ap (λ ys. map (after_try trial) tried.done ++ ys) named.split
+          ∙ sym (append_assoc (map (after_try trial) tried.done) named.skipped (named.order ∷ named.later));
+      place_is = front_length (after_try trial) tried.done named.skipped ∙ named.place;
     }
 
-pub tried_more : (fill : Order → Option Fill) (at : Moment) → FillsLive fill → (first now next : Ledger) (before after later : List Reply) (i place : ℕ) (places : List ℕ)
-    → Tried fill at first now before after i → drop i first.live.items ≡ place ∷ places → drop (i + 1) first.live.items ≡ places
+pub tried_more : (trial : Trial) (test : Order → Bool) (at : Moment) → Passes trial test → (whole : List ℕ) (first now next : Ledger) (before after later : List Reply) (i place : ℕ) (places : List ℕ)
+    → Tried trial test at whole first now before after i → drop i whole ≡ place ∷ places → drop (i + 1) whole ≡ places
     → ((front back : List Order) (order : Order) → now.orders.items ≡ front ++ order ∷ back → length front ≡ place
-    → Tries fill at front (order ∷ []) back now next after later)
-    → Tried fill at first next before later (i + 1)
-tried_more fill at lives first now next before after later i place places tried is rest step =
-    let named : Named (length tried.done) place places tried.rest =
-    next_named (length tried.done) place places tried.rest (subst (λ ps. Name (length tried.done) ps tried.rest) is tried.names) in
-    let front : List Order = map (after_try fill) tried.done ++ named.skipped in
+    → Tries trial at front (order ∷ []) back now next after later)
+    → Tried trial test at whole first next before later (i + 1)
+tried_more trial test at passes whole first now next before after later i place places tried is rest step =
+    let named : Named test (length tried.done) place places tried.rest =
+    next_named test (length tried.done) place places tried.rest (subst (λ ps. Name test (length tried.done) ps tried.rest) is tried.names) in
+    let front : List Order = map (after_try trial) tried.done ++ named.skipped in
     let here : now.orders.items ≡ front ++ named.order ∷ named.later =
-    tried.tries.orders ∙ ap (λ ys. map (after_try fill) tried.done ++ ys) named.split
-    ∙ sym (append_assoc (map (after_try fill) tried.done) named.skipped (named.order ∷ named.later)) in
-    let size : length front ≡ place = front_length (after_try fill) tried.done named.skipped ∙ named.place in
+    tried.tries.orders ∙ ap (λ ys. map (after_try trial) tried.done ++ ys) named.split
+    ∙ sym (append_assoc (map (after_try trial) tried.done) named.skipped (named.order ∷ named.later)) in
+    let size : length front ≡ place = front_length (after_try trial) tried.done named.skipped ∙ named.place in
     let longer : place + 1 ≡ length (tried.done ++ (named.skipped ++ named.order ∷ [])) =
     omega (arith, named.place, length-append tried.done (named.skipped ++ named.order ∷ []), length-append named.skipped (named.order ∷ [])) in
     record {
@@ -180,24 +206,28 @@ tried_more fill at lives first now next before after later i place places tried 
           tried.split ∙ ap (λ ys. tried.done ++ ys) (named.split ∙ sym (joined named.skipped named.order named.later))
           ∙ sym (append_assoc tried.done (named.skipped ++ named.order ∷ []) named.later);
       tries =
-          tries_more fill at lives tried.done named.skipped named.order named.later first now next before after later
-          (subst (λ xs. Tries fill at [] tried.done xs first now before after) named.split tried.tries) named.dead
+          tries_more trial test at passes tried.done named.skipped named.order named.later first now next before after later
+          (subst (λ xs. Tries trial at [] tried.done xs first now before after) named.split tried.tries) named.out
           (step front named.later named.order here size);
-      names = subst (λ n. Name n (drop (i + 1) first.live.items) named.later) longer (subst (λ ps. Name (place + 1) ps named.later) (sym rest) named.rest);
+      names = subst (λ n. Name test n (drop (i + 1) whole) named.later) longer (subst (λ ps. Name test (place + 1) ps named.later) (sym rest) named.rest);
     }
 
-pub tried_all : (fill : Order → Option Fill) (at : Moment) → FillsLive fill → (first now : Ledger) (before after : List Reply) (i : ℕ) → drop i first.live.items ≡ []
-    → Tried fill at first now before after i → Tries fill at [] first.orders.items [] first now before after
-tried_all fill at lives first now before after i none tried =
-    tries_end fill at lives first.orders.items tried.done tried.rest first now before after tried.split tried.tries
-    (none_named (length tried.done) tried.rest (subst (λ ps. Name (length tried.done) ps tried.rest) none tried.names))
+pub tried_all : (trial : Trial) (test : Order → Bool) (at : Moment) → Passes trial test → (places : List ℕ) (first now : Ledger) (before after : List Reply) (i : ℕ) → drop i places ≡ []
+    → Tried trial test at places first now before after i → Tries trial at [] first.orders.items [] first now before after
+tried_all trial test at passes places first now before after i none tried =
+    tries_end trial test at passes first.orders.items tried.done tried.rest first now before after tried.split tried.tries
+    (none_named test (length tried.done) tried.rest (subst (λ ps. Name test (length tried.done) ps tried.rest) none tried.names))
 
-pub next_within : (fill : Order → Option Fill) (now : Ledger) (place : ℕ) → Next fill now place → place < length now.orders.items
-next_within fill now place next = omega (arith, ap length next.split, length-append next.front (next.order ∷ next.back), next.place_is)
+pub next_within : (now : Ledger) (place : ℕ) → Next now place → place < length now.orders.items
+next_within now place next = omega (arith, ap length next.split, length-append next.front (next.order ∷ next.back), next.place_is)
 
 pub drop_here : (old now : List ℕ) (i place : ℕ) → now ≡ old → place ≡ get_or now i place → i < length old → drop i old ≡ place ∷ drop (i + 1) old
 drop_here old now i place same read within =
     drop_more old i place within ∙ ap (λ p. p ∷ drop (i + 1) old) (ap (λ xs. get_or xs i place) (sym same) ∙ sym read)
 
-pub filling_live : (costs : Costs) (hours : Entries) (bars : List (List ℕ × PriceBar)) → FillsLive (filling costs hours bars)
-filling_live costs hours bars o dead = ap (λ b. if b then option_and_then (fill_on costs hours o) (lookup (same_symbol o.symbol) bars) else None) dead
+-- orders that are not live are left as they are
+pub trial_lives : (costs : Costs) (hours : Entries) (bars : List (List ℕ × PriceBar)) → Passes (trial costs hours bars) lives
+trial_lives costs hours bars = record {
+  none = λ o dead. ap (λ b. option_and_then (fill_on costs hours o) (if b then lookup (same_symbol o.symbol) bars else None)) dead;
+  same = λ o dead. ap (λ b. option_map_or (set_off hours o) (if b then lookup (same_symbol o.symbol) bars else None) o) dead;
+}

@@ -1,5 +1,5 @@
 -- What is found of a request before it becomes an order.
-use Rattle.std.specs.Prelude.{◌≡◌, ℕ, true, Some, None, Result, Ok, Err, IfSome}
+use Rattle.std.specs.Prelude.{◌≡◌, ℕ, true, false, Some, None, Result, Ok, Err, IfSome}
 use Rattle.lean_fixed.specs.Ranges.{IsPrice, IsQuantity}
 use Rattle.lean_fixed.specs.declared.money.Price.{Price}
 use Rattle.lean_fixed.specs.declared.time.Moment.{Moment}
@@ -9,7 +9,7 @@ use Rattle.lean_orders.specs.declared.order.Order.{Order}
 use Rattle.lean_orders.specs.declared.order.OrderState.{OrderState}
 use Rattle.lean_orders.specs.declared.order.Request.{Request}
 use Rattle.clock_book.specs.Books.{Book, price_of}
-use Rattle.clock_book.specs.Submits.{has_price, kept_price, submit_cause}
+use Rattle.clock_book.specs.Submits.{has_price, has_limit, kept_price, kept_limit, submit_cause}
 
 -- the first cause against the request, or the price of its symbol where there is none
 abbrev pub IsJudged : Book → Request → Result Price Cause → Type 0
@@ -21,11 +21,13 @@ IsJudged book request (Err cause) = submit_cause book request ≡ Some cause
 pub record IsSound (request : Request) : Type 0 where
   pub quantity : IsQuantity request.quantity.0
   pub price : has_price request.kind ≡ true → IfSome request.price (λ price. IsPrice price.0)
+  pub limit : has_limit request.kind ≡ true → IfSome request.limit (λ limit. IsPrice limit.0)
 
 -- those of one that rests as an order of a kind
 pub record IsResting (kind : Kind) (request : Request) : Type 0 where
   pub quantity : IsQuantity request.quantity.0
   pub price : IfSome (kept_price kind request.price) (λ price. IsPrice price.0)
+  pub limit : IfSome (kept_limit kind request.limit) (λ limit. IsPrice limit.0)
 
 -- the order that a request makes
 abbrev pub made_order : ℕ → Moment → Request → Kind → OrderState → Order
@@ -36,6 +38,8 @@ made_order id at request kind state =
       kind = kind;
       quantity = request.quantity;
       price = kept_price kind request.price;
+      limit = kept_limit kind request.limit;
       placed = at;
       state = state;
+      triggered = false;
     }

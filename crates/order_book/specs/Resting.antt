@@ -13,24 +13,24 @@ use Rattle.portfolio.specs.Symbols.{is_among}
 use Rattle.trade_costs.specs.Fees.{IsCosts}
 use Rattle.clock_book.specs.Books.{is_live}
 use Rattle.clock_book.specs.Fitting.{most_orders}
+use Rattle.clock_book.specs.Seen.{AreNumbered}
 use Rattle.order_book.specs.Kept.{Kept}
 
--- ids count from a number on
-abbrev pub AreNumbered : ℕ → List Order → Type 0
-AreNumbered n [] = Unit {0}
-AreNumbered n (order ∷ later) = (order.id ≡ n) × AreNumbered (n + 1) later
+-- Places name those of a test among orders that stand from a place on. They rise, and may name others too.
+abbrev pub Name : (Order → Bool) → ℕ → List ℕ → List Order → Type 0
+Name test n places [] = places ≡ []
+Name test n places (order ∷ later) =
+    ((rest : List ℕ) × (places ≡ n ∷ rest) × Name test (n + 1) rest later)
+    ⊎ ((test order ≡ false) × Name test (n + 1) places later)
 
--- Places name the live ones among orders that stand from a place on. They rise, and may name orders that are no longer live.
-abbrev pub Name : ℕ → List ℕ → List Order → Type 0
-Name n places [] = places ≡ []
-Name n places (order ∷ later) =
-    ((rest : List ℕ) × (places ≡ n ∷ rest) × Name (n + 1) rest later)
-    ⊎ ((is_live order.state ≡ false) × Name (n + 1) places later)
+abbrev pub lives : Order → Bool
+lives order = is_live order.state
 
 -- the numbers of an order are in their ranges
 pub record IsRanged (order : Order) : Type 0 where
   pub quantity : IsQuantity order.quantity.0
   pub price : IfSome order.price (λ price. IsPrice price.0)
+  pub limit : IfSome order.limit (λ limit. IsPrice limit.0)
 
 -- those of a live one are, and the account has an entry of its symbol
 pub record Rests (symbols : List (List ℕ)) (order : Order) : Type 0 where
@@ -74,5 +74,5 @@ pub record IsKept (kept : Kept) : Type 0 where
   pub costs : IsCosts kept.costs
   pub leverage : IsLeverage kept.leverage
   pub orders : AreKept kept.account kept.orders
-  pub live : Name 0 kept.live kept.orders
+  pub live : Name lives 0 kept.live kept.orders
   pub bars : ArePriced kept.bars

@@ -1,13 +1,13 @@
 //! What is against a request.
-ghost use Rattle.std.specs.Prelude.{◌≡◌, IfSome};
-ghost use Rattle.std.specs.Bool.{OnTrue};
+ghost use Rattle.std.specs.Prelude.{◌≡◌, true, IfSome};
+ghost use Rattle.std.specs.Bool.{OnTrue, OnFalse};
 ghost use Rattle.lean_fixed.specs.Ranges.{IsPrice, IsQuantity};
-ghost use Rattle.clock_book.specs.Submits.{is_quantity, is_price, is_priced};
+ghost use Rattle.clock_book.specs.Submits.{is_quantity, is_priced, is_unpriced, has_price, has_limit};
 
 use crate::book::Book;
-use crate::orders::has_price;
+use crate::orders::{has_limit, has_price};
 use buying_power::{Power, allows};
-use lean_fixed::ranges::{MOST_PRICE, MOST_QUANTITY};
+use lean_fixed::ranges::MOST_QUANTITY;
 use lean_fixed::{Money, Price, Shares};
 use lean_orders::{Cause, Request};
 
@@ -46,7 +46,7 @@ impl Book {
             → result ≡ priced_cause book request.now price.0 }
         ensures sound { IfNone result (IsSound request.now) }
     {
-        if has_price(request.kind) && !is_priced(request.price) {
+        if is_unpriced(request) {
             return Some(Cause::PriceForm);
         }
         if allows(&self.power(request, price)) {
@@ -83,12 +83,16 @@ fn is_quantity(quantity: Shares) -> bool
     quantity.0 != 0 && quantity.0.unsigned_abs() <= MOST_QUANTITY as u64
 }
 
-// Whether an order may have this price.
-pub(crate) fn is_price(price: Price) -> bool
-    ensures value { result ≡ is_price price.0 }
-    ensures range { OnTrue result (IsPrice price.0) }
+// Whether a price that the request's kind wants is missing or out of range.
+fn is_unpriced(request: &Request) -> bool
+    ensures value { result ≡ is_unpriced request.now }
+    ensures price { OnFalse result (has_price request.now.kind ≡ true
+        → IfSome request.now.price (λ price. IsPrice price.0)) }
+    ensures limit { OnFalse result (has_limit request.now.kind ≡ true
+        → IfSome request.now.limit (λ limit. IsPrice limit.0)) }
 {
-    1 <= price.0 && price.0 <= MOST_PRICE
+    has_price(request.kind) && !is_priced(request.price)
+        || has_limit(request.kind) && !is_priced(request.limit)
 }
 
 fn is_priced(price: Option<Price>) -> bool
@@ -96,7 +100,7 @@ fn is_priced(price: Option<Price>) -> bool
     ensures range { OnTrue result (IfSome price (λ price. IsPrice price.0)) }
 {
     match price {
-        Some(price) => is_price(price),
+        Some(price) => price.is_in_range(),
         None => false,
     }
 }

@@ -108,17 +108,18 @@ impl Ledger {
         self.orders.push_reserved(order);
     }
 
-    // Fills the live order at a place. There is room for its fill.
-    pub(crate) fn fill(&mut self, place: usize, order: &Order, fill: &Fill)
+    // Fills the live order at a place, as it is after its trigger. There is room for its fill.
+    pub(crate) fn fill(&mut self, place: usize, order: &Order, first: &Order, fill: &Fill)
         requires kept { IsLedger self.old }
         requires there { slice_get self.old.orders.items place ≡ Some order.now }
         requires lives { is_live order.now.state ≡ true }
+        requires id { first.now.id ≡ order.now.id }
         requires symbol { fill.now.symbol ≡ order.now.symbol }
         requires fill { IsFill fill.now }
         requires room { vec_len self.old.fills < vec_capacity self.old.fills }
         ensures kept { IsLedger self.new }
         ensures orders { self.new.orders.items
-            ≡ set self.old.orders.items place (in_state Filled order.now) }
+            ≡ set self.old.orders.items place (in_state Filled first.now) }
         ensures fills { self.new.fills.items ≡ self.old.fills.items ++ fill.now ∷ [] }
         ensures live { self.new.live.items ≡ self.old.live.items }
         ensures account { HasFills (fill.now ∷ []) self.old.portfolio self.new.portfolio }
@@ -129,8 +130,26 @@ impl Ledger {
         self.fills.push_reserved(*fill);
         self.orders[place] = Order {
             state: OrderState::Filled,
-            ..*order
+            ..*first
         };
+    }
+
+    // Has the order at a place as it is after its trigger.
+    pub(crate) fn set_off(&mut self, place: usize, order: &Order, first: &Order)
+        requires kept { IsLedger self.old }
+        requires there { slice_get self.old.orders.items place ≡ Some order.now }
+        requires id { first.now.id ≡ order.now.id }
+        requires state { first.now.state ≡ order.now.state }
+        requires rests { RestsWhereLive (held self.old.portfolio) first.now }
+        ensures kept { IsLedger self.new }
+        ensures orders { self.new.orders.items ≡ set self.old.orders.items place first.now }
+        ensures fills { self.new.fills.items ≡ self.old.fills.items }
+        ensures live { self.new.live.items ≡ self.old.live.items }
+        ensures account { self.new.portfolio ≡ self.old.portfolio }
+        ensures capacity { vec_capacity self.new.fills ≡ vec_capacity self.old.fills }
+        ensures len { vec_len self.new.fills ≡ vec_len self.old.fills }
+    {
+        self.orders[place] = *first;
     }
 
     // Puts an order in the place of the one of its id, which is live.

@@ -3,11 +3,11 @@ ghost use Rattle.std.specs.Prelude.{◌≡◌, option_map};
 ghost use Rattle.clock_book.specs.Books.{is_live, table_bar, opening_of};
 
 use exchange_hours::Hours;
-use fill_models::try_fill;
+use fill_models::{triggers, try_fill};
 use indexmap::IndexMap;
 use lean_fixed::{Moment, Price, Shares, Side, Symbol};
 use lean_items::Bar;
-use lean_orders::{Fill, Order, OrderState, PriceBar};
+use lean_orders::{Fill, Kind, Order, OrderState, PriceBar};
 use std::sync::Arc;
 use trade_costs::Costs;
 
@@ -32,9 +32,10 @@ impl Market {
     ghost use Rattle.trade_costs.specs.Fees.{IsCosts, slipped};
     ghost use Rattle.fill_models.specs.FillPrice.{side_of};
     ghost use Rattle.clock_book.specs.Books.{is_live, table_bar, opening_of};
+    ghost use Rattle.clock_book.specs.Matches.{is_set_off, set_off, fill_on};
     ghost use Rattle.clock_book.specs.Submits.{fill_at};
-    ghost use Rattle.order_book.specs.Filling.{fill_on, filling};
-    ghost use Rattle.order_book.specs.Resting.{IsPriced, ArePriced, IsRanged};
+    ghost use Rattle.order_book.specs.Filling.{trial};
+    ghost use Rattle.order_book.specs.Resting.{IsPriced, ArePriced, IsRanged, RestsWhereLive};
 
     // The bar is the one on which the orders of its symbol are tried, if it is real. There is room for it.
     pub(crate) fn keep(&mut self, symbol: Symbol, bar: &PriceBar)
@@ -66,14 +67,61 @@ impl Market {
         self.bars.clear();
     }
 
+    // The order as it is tried: a stop-limit order that the bar of its symbol triggers is triggered.
+    pub(crate) fn first(&self, order: &Order) -> Order
+        ensures value { result
+            ≡ (trial self.now.costs (arc_value self.now.hours) self.now.bars.entries).first order.now }
+        ensures id { result.id ≡ order.now.id }
+        ensures state { result.state ≡ order.now.state }
+        ensures rests { (symbols : List (List ℕ)) → RestsWhereLive symbols order.now → RestsWhereLive symbols result }
+    {
+        if !is_live(order.state) {
+            return *order;
+        }
+        match self.bars.get(&order.symbol) {
+            Some(bar) => self.set_off(order, bar),
+            None => *order,
+        }
+    }
+
+    // The order after the bar: it is triggered, if the bar triggers it.
+    fn set_off(&self, order: &Order, bar: &PriceBar) -> Order
+        ensures value { result ≡ set_off (arc_value self.now.hours) order.now bar.now }
+        ensures id { result.id ≡ order.now.id }
+        ensures state { result.state ≡ order.now.state }
+        ensures ranged { IsRanged order.now → IsRanged result }
+        ensures rests { (symbols : List (List ℕ)) → RestsWhereLive symbols order.now → RestsWhereLive symbols result }
+    {
+        if self.is_set_off(order, bar) {
+            Order {
+                triggered: true,
+                ..*order
+            }
+        } else {
+            *order
+        }
+    }
+
+    // Whether the bar triggers the order. None does so on a day without a session.
+    fn is_set_off(&self, order: &Order, bar: &PriceBar) -> bool
+        ensures { result ≡ is_set_off (arc_value self.now.hours) order.now bar.now }
+    {
+        match order.kind {
+            Kind::StopLimit => {
+                opening_of(&self.hours, bar.start).is_some() && triggers(order, &table_bar(bar))
+            }
+            Kind::Market | Kind::Limit | Kind::Stop | Kind::AtOpen => false,
+        }
+    }
+
     // The fill of an order by the bar of its symbol. `None` exactly where the order is not live, there is no bar, the bar's
-    // day has no session, or the fill table has no price.
+    // day has no session, or the fill table has no price for the order, which may just have been triggered.
     pub(crate) fn fill(&self, order: &Order) -> Option<Fill>
         requires costs { IsCosts self.now.costs }
         requires bars { ArePriced self.now.bars.entries }
         requires ranged { is_live order.now.state ≡ true → IsRanged order.now }
         ensures value { result
-            ≡ filling self.now.costs (arc_value self.now.hours) self.now.bars.entries order.now }
+            ≡ (trial self.now.costs (arc_value self.now.hours) self.now.bars.entries).fill order.now }
         ensures range { IfSome result IsFill }
         ensures symbol { IfSome result (λ fill. fill.symbol ≡ order.now.symbol) }
     {
@@ -95,7 +143,8 @@ impl Market {
         ensures symbol { IfSome result (λ fill. fill.symbol ≡ order.now.symbol) }
     {
         let opens = opening_of(&self.hours, bar.start)?;
-        let price = try_fill(order, &table_bar(bar), opens, &self.costs)?;
+        let first = self.set_off(order, bar);
+        let price = try_fill(&first, &table_bar(bar), opens, &self.costs)?;
         Some(self.fill_at(order.symbol, order.quantity, price))
     }
 

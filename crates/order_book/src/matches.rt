@@ -11,7 +11,7 @@ impl Market {
     ghost use Rattle.std.specs.Vec.{vec_len, vec_capacity};
     ghost use Rattle.lean_orders.specs.declared.order.Order.{Order};
     ghost use Rattle.trade_costs.specs.Fees.{IsCosts};
-    ghost use Rattle.order_book.specs.Filling.{filling};
+    ghost use Rattle.order_book.specs.Filling.{trial};
     ghost use Rattle.order_book.specs.Tries.{IsLedger, Tries};
     ghost use Rattle.order_book.specs.Resting.{ArePriced};
 
@@ -23,7 +23,7 @@ impl Market {
         requires room { vec_len ledger.old.fills + vec_len ledger.old.live ≤ vec_capacity ledger.old.fills }
         requires replies { vec_len out.old + vec_len ledger.old.live ≤ vec_capacity out.old }
         ensures kept { IsLedger ledger.new }
-        ensures tried { Tries (filling self.now.costs (arc_value self.now.hours) self.now.bars.entries) at
+        ensures tried { Tries (trial self.now.costs (arc_value self.now.hours) self.now.bars.entries) at
             [] ledger.old.orders.items [] ledger.old ledger.new out.old.items out.new.items }
         ensures said { vec_len out.new ≤ vec_len out.old + vec_len ledger.old.live }
         ensures capacity { vec_capacity out.old ≤ vec_capacity out.new }
@@ -45,7 +45,7 @@ impl Market {
         ensures kept { IsLedger ledger.new }
         ensures tried { (front back : List Order) (order : Order)
             → ledger.old.orders.items ≡ front ++ order ∷ back → length front ≡ place
-            → Tries (filling self.now.costs (arc_value self.now.hours) self.now.bars.entries) at
+            → Tries (trial self.now.costs (arc_value self.now.hours) self.now.bars.entries) at
             front (order ∷ []) back ledger.old ledger.new out.old.items out.new.items }
         ensures fills { vec_len ledger.new.fills ≤ vec_len ledger.old.fills + 1 }
         ensures room { vec_capacity ledger.new.fills ≡ vec_capacity ledger.old.fills }
@@ -53,12 +53,13 @@ impl Market {
         ensures capacity { vec_capacity out.old ≤ vec_capacity out.new }
     {
         let order = ledger.orders[place];
+        let first = self.first(&order);
         match self.fill(&order) {
             Some(fill) => {
-                ledger.fill(place, &order, &fill);
+                ledger.fill(place, &order, &first, &fill);
                 say(&[said(at, order.id, order.symbol, What::Filled(fill))], out);
             }
-            None => (),
+            None => ledger.set_off(place, &order, &first),
         }
     }
 }

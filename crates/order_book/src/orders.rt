@@ -1,9 +1,10 @@
 //! The list of all orders. That of an id stands at the place one less than it.
 ghost use Rattle.std.specs.Prelude.{◌≡◌, ◌==◌, Some, IfSome};
 ghost use Rattle.std.specs.List.{find};
-ghost use Rattle.clock_book.specs.Submits.{has_price};
+ghost use Rattle.clock_book.specs.Submits.{has_price, has_limit};
 ghost use Rattle.order_book.specs.Judged.{made_order};
-ghost use Rattle.order_book.specs.Resting.{AreNumbered, is_live_at};
+ghost use Rattle.order_book.specs.Resting.{is_live_at};
+ghost use Rattle.clock_book.specs.Seen.{AreNumbered};
 
 use crate::market::is_live;
 use lean_fixed::Moment;
@@ -48,8 +49,10 @@ pub(crate) fn made_order(
         kind,
         quantity: request.quantity,
         price: if has_price(kind) { request.price } else { None },
+        limit: if has_limit(kind) { request.limit } else { None },
         placed: at,
         state,
+        triggered: false,
     }
 }
 
@@ -58,7 +61,17 @@ pub(crate) fn has_price(kind: Kind) -> bool
     ensures { result ≡ has_price kind }
 {
     match kind {
-        Kind::Limit | Kind::Stop => true,
+        Kind::Limit | Kind::Stop | Kind::StopLimit => true,
         Kind::Market | Kind::AtOpen => false,
+    }
+}
+
+// Whether they have a limit beside it.
+pub(crate) fn has_limit(kind: Kind) -> bool
+    ensures { result ≡ has_limit kind }
+{
+    match kind {
+        Kind::StopLimit => true,
+        Kind::Market | Kind::Limit | Kind::Stop | Kind::AtOpen => false,
     }
 }

@@ -100,7 +100,7 @@ impl Book {
         out.reserve(2)?;
         self.ledger.reserve_fill(request.symbol)?;
         let order = made_order(self.next_id(), at, request, kind, OrderState::Live);
-        let what = What::Submitted(kind, order.quantity, order.price);
+        let what = What::Submitted(kind, order.quantity, order.price, order.limit);
         say(&[said(at, order.id, order.symbol, what), Reply::Done], out);
         self.ledger.add(order);
         Ok(())
@@ -134,7 +134,7 @@ impl Book {
         let fill = self
             .market
             .fill_at_once(order.symbol, order.quantity, price);
-        let submitted = What::Submitted(Kind::Market, order.quantity, None);
+        let submitted = What::Submitted(Kind::Market, order.quantity, None, None);
         let replies = [
             said(at, order.id, order.symbol, submitted),
             said(at, order.id, order.symbol, What::Filled(fill)),

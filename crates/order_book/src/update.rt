@@ -1,6 +1,5 @@
 //! Updates and cancels of orders, and the account.
 use crate::book::Book;
-use crate::judge::is_price;
 use crate::market::is_live;
 use crate::orders::{has_price, order_of};
 use crate::replies::{answer, refused, said, unknown};
@@ -81,7 +80,7 @@ impl Book {
         if !is_live(order.state) {
             return self.reply(refused(at, order, Cause::Closed), out);
         }
-        if !has_price(order.kind) || !is_price(price) {
+        if !has_price(order.kind) || !price.is_in_range() {
             return self.reply(refused(at, order, Cause::PriceForm), out);
         }
         let updated = Order {

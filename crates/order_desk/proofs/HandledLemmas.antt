@@ -1,8 +1,9 @@
 -- What every command has in common: some events or an account, and then `Done`; and a submit makes one order.
-use Rattle.std.proofs.Common.{◌≡◌, ℕ, ◌+◌, ◌≤◌, ℤ, Bool, true, false, if◌then◌else◌, List, [], ◌∷◌, ◌++◌, length, Option, Some, None, refl, sym, ◌∙◌, subst, arith, not, ◌&&◌, ◌||◌, length-append}
+use Rattle.std.proofs.Common.{◌≡◌, ℕ, ◌+◌, ◌≤◌, ℤ, Bool, true, false, if◌then◌else◌, List, [], ◌∷◌, ◌++◌, length, Option, Some, None, refl, sym, ◌∙◌, subst, arith, not, ◌||◌, length-append}
 use Rattle.std.specs.List.{filter_map, cons_option}
 use Rattle.std.specs.Option.{option_map}
 use Rattle.std.proofs.lemmas.List.{length-map}
+use Rattle.lean_fixed.specs.Ranges.{is_price}
 use Rattle.lean_fixed.specs.declared.money.Price.{Price}
 use Rattle.lean_fixed.specs.declared.time.Moment.{Moment}
 use Rattle.lean_orders.specs.declared.desk.Reply.{Reply}
@@ -10,7 +11,7 @@ use Rattle.lean_orders.specs.declared.desk.Reply.TheVariants as reply
 use Rattle.lean_orders.specs.declared.desk.Command.{Command}
 use Rattle.lean_orders.specs.declared.desk.Command.TheVariants as command
 use Rattle.lean_orders.specs.declared.order.Kind.{Kind}
-use Rattle.lean_orders.specs.declared.order.Kind.TheVariants.{Market, Limit, Stop, AtOpen}
+use Rattle.lean_orders.specs.declared.order.Kind.TheVariants.{Market, Limit, Stop, AtOpen, StopLimit}
 use Rattle.lean_orders.specs.declared.order.Request.{Request}
 use Rattle.lean_orders.specs.declared.order.Order.{Order}
 use Rattle.lean_orders.specs.declared.event.Cause.{Cause}
@@ -18,7 +19,7 @@ use Rattle.lean_orders.specs.declared.event.Cause.TheVariants.{Quantity, NoPrice
 use Rattle.lean_orders.specs.declared.order.OrderState.TheVariants.{Canceled}
 use Rattle.lean_orders.specs.declared.event.Fill.{Fill}
 use Rattle.clock_book.specs.Books.{Book, price_of, order_of, is_live}
-use Rattle.clock_book.specs.Submits.{is_quantity, is_price, has_price, is_priced, cause_at_price}
+use Rattle.clock_book.specs.Submits.{is_quantity, has_price, is_unpriced, cause_at_price}
 use Rattle.clock_book.specs.Matches.{in_state, matched, filled_event, match_event, match_events}
 use Rattle.clock_book.specs.Handled.{Handled, handled, done, with_orders, market_submit, resting_submit, accepted_submit, priced_submit, judged_submit, update_found, cancel_found, at_price, replaced}
 use Rattle.order_desk.specs.Served.{is_done, dones}
@@ -103,6 +104,7 @@ of_accepted s at request Market price =
 of_accepted s at request Limit price = of_resting s at request Limit
 of_accepted s at request Stop price = of_resting s at request Stop
 of_accepted s at request AtOpen price = of_resting s at request AtOpen
+of_accepted s at request StopLimit price = of_resting s at request StopLimit
 
 of_refused : (s : Book) (at : Moment) (request : Request) (cause : Cause) → Answers s 1 (judged_submit s at request (Some cause))
 of_refused s at request cause = record {
@@ -129,7 +131,7 @@ of_judged : (s : Book) (at : Moment) (request : Request) (quantity : Bool) (pric
     → Answers s 1 (judged_submit s at request (if quantity then cause_at_price s request price else Some Quantity))
 of_judged s at request false price is = of_refused s at request Quantity
 of_judged s at request true None is = of_refused s at request NoPrice
-of_judged s at request true (Some price) is = of_powered s at request price (has_price request.kind && not (is_priced request.price)) _ is
+of_judged s at request true (Some price) is = of_powered s at request price (is_unpriced request) _ is
 
 of_submit : (s : Book) (at : Moment) (request : Request) → Answers s 1 (handled s (command.Submit at request))
 of_submit s at request = of_judged s at request (is_quantity request.quantity.0) (price_of s request.symbol) refl

@@ -5,6 +5,7 @@
 #![tactic(auto)]
 
 mod desk;
+mod fitting;
 mod gate;
 pub mod laws;
 mod serial_desk;
@@ -12,5 +13,6 @@ mod unheard;
 mod worked;
 
 pub use desk::Desk;
+pub use fitting::fits;
 pub use gate::{Gate, NoGate};
 pub use serial_desk::SerialDesk;

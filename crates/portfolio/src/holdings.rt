@@ -1,5 +1,6 @@
 //! The table of what is held, by symbol.
 ghost use Rattle.std.specs.Prelude.{◌≡◌, ℕ, List, ◌++◌, [], ◌∷◌, true, false, Some, OnOk, OnErr, slice_get, if◌then◌else◌};
+ghost use Rattle.std.specs.List.{IsDistinct};
 ghost use Rattle.portfolio.specs.Symbols.{same_symbol, is_among};
 ghost use Rattle.portfolio.specs.Account.{holding_in, keys_in};
 
@@ -79,10 +80,12 @@ pub fn set_lot(holdings: &mut Holdings, symbol: &Symbol, lot: Lot)
     }
 }
 
-/// The symbol of the entry at this place.
+/// The symbol of the entry at this place. The symbols differ.
 pub fn key_at(holdings: &Holdings, index: usize) -> Option<Symbol>
-    ensures { result ≡ slice_get (keys_in holdings.now.entries) index }
+    ensures value { result ≡ slice_get (keys_in holdings.now.entries) index }
+    ensures differ { IsDistinct same_symbol (keys_in holdings.now.entries) }
 {
+    let _len = holdings.len();
     match holdings.get_index(index) {
         Some((symbol, _)) => Some(*symbol),
         None => None,

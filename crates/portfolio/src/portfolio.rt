@@ -26,11 +26,12 @@ impl Model for Portfolio {
 }
 
 impl Portfolio {
-    ghost use Rattle.std.specs.Prelude.{◌≡◌, ◌+◌, ◌<◌, ℤ, List, [], ◌∷◌, ◌++◌, true, Option, OnOk, OnErr, option_map, slice_get, if◌then◌else◌};
+    ghost use Rattle.std.specs.Prelude.{◌≡◌, ◌+◌, ◌<◌, ◌≤◌, ℤ, length, List, [], ◌∷◌, ◌++◌, true, Option, OnOk, OnErr, option_map, slice_get, if◌then◌else◌};
     ghost use Rattle.lean_fixed.specs.Ranges.{IsStartingCash, IsMoney, IsPosition, IsPrice};
     ghost use Rattle.lean_orders.specs.declared.event.Fill.{Fill};
     ghost use Rattle.lean_orders.specs.Traded.{IsFill};
-    ghost use Rattle.portfolio.specs.Symbols.{is_among};
+    ghost use Rattle.std.specs.List.{IsDistinct};
+    ghost use Rattle.portfolio.specs.Symbols.{same_symbol, is_among};
     ghost use Rattle.portfolio.specs.Sums.{Mark, cash, position, fees, realised, last_mark, equity, gross_without};
     ghost use Rattle.portfolio.specs.Account.{held, holding_in};
     ghost use Rattle.portfolio.specs.Stands.{StandsFor, fills_applied, most_fills};
@@ -64,6 +65,24 @@ impl Portfolio {
             return Ok(());
         }
         add(&mut self.holdings, symbol)
+    }
+
+    /// Whether the symbol has an entry.
+    pub fn is_held(&self, symbol: Symbol) -> bool
+        ensures { result ≡ is_among symbol (held self.now) }
+    {
+        is_held(&self.holdings, &symbol)
+    }
+
+    /// The number of fills that were applied, at most 1,000,000.
+    pub fn fills_applied(&self) -> u32
+        ensures count { result ≡ fills_applied self.now }
+        ensures few { result ≤ most_fills }
+        ensures stands { (start : ℤ) (fills : List Fill) (marks : List Mark)
+            → StandsFor self.now start fills marks → result ≡ length fills }
+    {
+        self.check_totals();
+        self.totals.fills
     }
 
     /// The price of the symbol is this one from now on. The symbol has an entry.
@@ -174,9 +193,11 @@ impl Portfolio {
         Money(self.totals.gross_without(&holding))
     }
 
-    /// The symbol that was held as number `index`, counted from 0. `None` exactly where fewer were held.
+    /// The symbol that was held as number `index`, counted from 0. `None` exactly where fewer were held. No symbol is held
+    /// as two numbers.
     pub fn symbol_at(&self, index: usize) -> Option<Symbol>
-        ensures { result ≡ slice_get (held self.now) index }
+        ensures value { result ≡ slice_get (held self.now) index }
+        ensures differ { IsDistinct same_symbol (held self.now) }
     {
         key_at(&self.holdings, index)
     }

@@ -15,7 +15,7 @@ use Rattle.lean_fixed.specs.Symbol.{is_symbol, is_symbol_byte}
 use Rattle.lean_fixed.specs.declared.money.Price.{Price}
 use Rattle.lean_fixed.specs.declared.money.Shares.{Shares}
 use Rattle.lean_orders.specs.declared.order.Kind.{Kind}
-use Rattle.lean_orders.specs.declared.order.Kind.TheVariants.{Market, Limit, Stop, AtOpen}
+use Rattle.lean_orders.specs.declared.order.Kind.TheVariants.{Market, Limit, Stop, AtOpen, StopLimit}
 use Rattle.lean_orders.specs.declared.event.Cause.{Cause}
 use Rattle.lean_orders.specs.declared.event.Cause.TheVariants.{Quantity, NoPrice, PriceForm, BuyingPower, Unknown, Closed}
 use Rattle.lean_orders.specs.declared.event.Fill.{Fill}
@@ -24,8 +24,8 @@ use Rattle.lean_orders.specs.declared.event.What.TheVariants.{Submitted, Updated
 use Rattle.lean_orders.specs.Traded.{IsFill}
 use Rattle.std.specs.Fmt.{sign_text}
 use Rattle.std.specs.Int.{is_negative}
-use Rattle.report_lines.specs.Reading.{in_range, id_of_text, shares_of_text, quantity_of_text, price_of_text, fee_of_text, kind_of_text, cause_of_text, kept_price_of, price_step, quantity_step, kind_step, submitted_of_text, filled_as, fee_step, fill_price_step, fill_step, filled_of_text, what_step, what_of_text, event_with, symbol_step, id_step, order_step, order_of_text, event_of_text}
-use Rattle.report_lines.specs.EventLines.{kind_text, cause_text, quantity_text, price_or_dash, what_text, event_line, HasPriceOf, IsWhat, IsWhatOf}
+use Rattle.report_lines.specs.Reading.{in_range, id_of_text, shares_of_text, quantity_of_text, price_of_text, fee_of_text, kind_of_text, cause_of_text, limit_step, kept_prices_of, price_step, quantity_step, kind_step, submitted_of_text, filled_as, fee_step, fill_price_step, fill_step, filled_of_text, what_step, what_of_text, event_with, symbol_step, id_step, order_step, order_of_text, event_of_text}
+use Rattle.report_lines.specs.EventLines.{kind_text, cause_text, quantity_text, prices_text, what_text, event_line, HasPricesOf, IsWhat, IsWhatOf}
 use Rattle.report_lines.specs.Words.{is_space, spaced, cut}
 
 -- a word has no space
@@ -94,12 +94,14 @@ kind_has_none Market = refl
 kind_has_none Limit = refl
 kind_has_none Stop = refl
 kind_has_none AtOpen = refl
+kind_has_none StopLimit = refl
 
 kind-read : (kind : Kind) → kind_of_text (kind_text kind) ≡ Some kind
 kind-read Market = refl
 kind-read Limit = refl
 kind-read Stop = refl
 kind-read AtOpen = refl
+kind-read StopLimit = refl
 
 cause-read : (cause : Cause) → cause_of_text (cause_text cause) ≡ Some cause
 cause-read Quantity = refl
@@ -222,32 +224,41 @@ module _ (numbers : (n : ℕ) → n ≤ 10 ^ 18 → number_of_text (decimal n) �
       step (pos n) h = price-read n (omega (arith, ints, h.0)) (omega (arith, ints, h.1))
       step (negsuc n) h = absurd (omega (arith, ints, h.0))
 
-  kept-read : (kind : Kind) (price : Option Price) → HasPriceOf kind price → kept_price_of kind (price_or_dash price) ≡ Some price
-  kept-read Market None h = refl
-  kept-read Market (Some p) h = absurd h
-  kept-read Limit None h = absurd h
-  kept-read Limit (Some p) h = ap (option_map Some) (money-read p h)
-  kept-read Stop None h = absurd h
-  kept-read Stop (Some p) h = ap (option_map Some) (money-read p h)
-  kept-read AtOpen None h = refl
-  kept-read AtOpen (Some p) h = absurd h
-
   money_has_none : (z : ℤ) → IsFillPrice z → has_space (money_text z) ≡ false
   money_has_none (pos n) h = price_has_none n (omega (arith, ints, h.1))
   money_has_none (negsuc n) h = absurd (omega (arith, ints, h.0))
+
+  kept-read : (kind : Kind) (price limit : Option Price) → HasPricesOf kind price limit → kept_prices_of kind (prices_text price limit) ≡ Some (price, limit)
+  kept-read Market None None h = refl
+  kept-read Market None (Some l) h = absurd h
+  kept-read Market (Some p) l h = absurd h
+  kept-read Limit None l h = absurd h
+  kept-read Limit (Some p) None h = ap (option_map (λ price. (Some price, None))) (money-read p h)
+  kept-read Limit (Some p) (Some l) h = absurd h
+  kept-read Stop None l h = absurd h
+  kept-read Stop (Some p) None h = ap (option_map (λ price. (Some price, None))) (money-read p h)
+  kept-read Stop (Some p) (Some l) h = absurd h
+  kept-read AtOpen None None h = refl
+  kept-read AtOpen None (Some l) h = absurd h
+  kept-read AtOpen (Some p) l h = absurd h
+  kept-read StopLimit None l h = absurd h
+  kept-read StopLimit (Some p) None h = absurd h
+  kept-read StopLimit (Some p) (Some l) h =
+      ap (option_and_then limit_step) (cut-spaced (money_text p.0) (money_text l.0) (money_has_none p.0 h.0))
+      ∙ (λ i. option_and_then (λ price. option_map (λ limit. (Some price, Some limit)) (money-read l h.1 i)) (money-read p h.0 i))
 
   fees-read : (z : ℤ) → IsFee z → fee_of_text (money_text z) ≡ Some (record { 0 = z })
   fees-read (pos n) h = fee-read n (omega (arith, ints, h.1))
   fees-read (negsuc n) h = absurd (omega (arith, ints, h.0))
 
-  submitted-read : (kind : Kind) (q : Shares) (price : Option Price) → IsQuantity q.0 → HasPriceOf kind price
-      → submitted_of_text (spaced (kind_text kind) (spaced (quantity_text q.0) (price_or_dash price))) ≡ Some (Submitted kind q price)
-  submitted-read kind q price r h =
-      ap (option_and_then kind_step) (cut-spaced (kind_text kind) (spaced (quantity_text q.0) (price_or_dash price)) (kind_has_none kind))
-      ∙ ap (option_and_then (λ k. option_and_then (quantity_step k) (cut (spaced (quantity_text q.0) (price_or_dash price))))) (kind-read kind)
-      ∙ ap (option_and_then (quantity_step kind)) (cut-spaced (quantity_text q.0) (price_or_dash price) (quantity_has_none q.0 r))
-      ∙ ap (option_and_then (λ quantity. price_step kind quantity (price_or_dash price))) (quantity-read q.0 r)
-      ∙ ap (option_map (Submitted kind q)) (kept-read kind price h)
+  submitted-read : (kind : Kind) (q : Shares) (price limit : Option Price) → IsQuantity q.0 → HasPricesOf kind price limit
+      → submitted_of_text (spaced (kind_text kind) (spaced (quantity_text q.0) (prices_text price limit))) ≡ Some (Submitted kind q price limit)
+  submitted-read kind q price limit r h =
+      ap (option_and_then kind_step) (cut-spaced (kind_text kind) (spaced (quantity_text q.0) (prices_text price limit)) (kind_has_none kind))
+      ∙ ap (option_and_then (λ k. option_and_then (quantity_step k) (cut (spaced (quantity_text q.0) (prices_text price limit))))) (kind-read kind)
+      ∙ ap (option_and_then (quantity_step kind)) (cut-spaced (quantity_text q.0) (prices_text price limit) (quantity_has_none q.0 r))
+      ∙ ap (option_and_then (λ quantity. price_step kind quantity (prices_text price limit))) (quantity-read q.0 r)
+      ∙ ap (option_map (λ prices. Submitted kind q prices.0 prices.1)) (kept-read kind price limit h)
 
   filled-read : (symbol : List ℕ) (fill : Fill) → IsFill fill → fill.symbol ≡ symbol
       → filled_of_text symbol (spaced (quantity_text fill.quantity.0) (spaced (money_text fill.price.0) (spaced (codes "fee") (money_text fill.fee.0))))
@@ -266,10 +277,10 @@ module _ (numbers : (n : ℕ) → n ≤ 10 ^ 18 → number_of_text (decimal n) �
       ∙ ap (λ s. Some (Filled (record { symbol = s; quantity = fill.quantity; price = fill.price; fee = fill.fee }))) (sym e)
 
   what-read : (symbol : List ℕ) (what : What) → IsWhat symbol what → what_of_text symbol (what_text what) ≡ Some what
-  what-read symbol (Submitted kind q price) h =
+  what-read symbol (Submitted kind q price limit) h =
       ap (option_and_then (what_step symbol))
-      (cut-spaced (codes "submitted") (spaced (kind_text kind) (spaced (quantity_text q.0) (price_or_dash price))) refl)
-      ∙ submitted-read kind q price h.0 h.1
+      (cut-spaced (codes "submitted") (spaced (kind_text kind) (spaced (quantity_text q.0) (prices_text price limit))) refl)
+      ∙ submitted-read kind q price limit h.0 h.1
   what-read symbol (Updated price) h =
       ap (option_and_then (what_step symbol)) (cut-spaced (codes "updated") (money_text price.0) refl) ∙ ap (option_map Updated) (money-read price h)
   what-read symbol (Filled fill) h =

@@ -6,7 +6,7 @@ use Rattle.lean_fixed.specs.Printed.{money_text, moment_text}
 use Rattle.lean_fixed.specs.Ranges.{IsPrintedMoment, IsQuantity, IsFillPrice}
 use Rattle.lean_fixed.specs.declared.money.Price.{Price}
 use Rattle.lean_orders.specs.declared.order.Kind.{Kind}
-use Rattle.lean_orders.specs.declared.order.Kind.TheVariants.{Market, Limit, Stop, AtOpen}
+use Rattle.lean_orders.specs.declared.order.Kind.TheVariants.{Market, Limit, Stop, AtOpen, StopLimit}
 use Rattle.lean_orders.specs.declared.event.Cause.{Cause}
 use Rattle.lean_orders.specs.declared.event.Cause.TheVariants.{Quantity, NoPrice, PriceForm, BuyingPower, Unknown, Closed}
 use Rattle.lean_orders.specs.declared.event.What.{What}
@@ -20,6 +20,7 @@ kind_text Market = codes "market"
 kind_text Limit = codes "limit"
 kind_text Stop = codes "stop"
 kind_text AtOpen = codes "open"
+kind_text StopLimit = codes "stop-limit"
 
 abbrev pub cause_text : Cause → List ℕ
 cause_text Quantity = codes "quantity"
@@ -38,10 +39,15 @@ abbrev pub price_or_dash : Option Price → List ℕ
 price_or_dash None = 45 ∷ []
 price_or_dash (Some price) = money_text price.0
 
+-- a price or '-', and behind it the limit where there is one
+abbrev pub prices_text : Option Price → Option Price → List ℕ
+prices_text price None = price_or_dash price
+prices_text price (Some limit) = spaced (price_or_dash price) (money_text limit.0)
+
 -- what happened to the order
 abbrev pub what_text : What → List ℕ
-what_text (Submitted kind quantity price) =
-    spaced (codes "submitted") (spaced (kind_text kind) (spaced (quantity_text quantity.0) (price_or_dash price)))
+what_text (Submitted kind quantity price limit) =
+    spaced (codes "submitted") (spaced (kind_text kind) (spaced (quantity_text quantity.0) (prices_text price limit)))
 what_text (Updated price) = spaced (codes "updated") (money_text price.0)
 what_text (Filled fill) =
     spaced (codes "filled")
@@ -59,17 +65,18 @@ event_line event =
     spaced (moment_text (unsigned_abs event.at.0))
     (spaced (codes "order") (spaced (decimal event.id) (spaced (symbol_text event.symbol) (what_text event.what))))
 
--- a limit or stop order has a price, and the others have none
-abbrev pub HasPriceOf : Kind → Option Price → Type 0
-HasPriceOf Limit (Some price) = IsFillPrice price.0
-HasPriceOf Stop (Some price) = IsFillPrice price.0
-HasPriceOf Market None = Unit {0}
-HasPriceOf AtOpen None = Unit {0}
-HasPriceOf _ _ = ⊥
+-- a limit or stop order has a price, a stop-limit order a price and a limit, and the others have none
+abbrev pub HasPricesOf : Kind → Option Price → Option Price → Type 0
+HasPricesOf Limit (Some price) None = IsFillPrice price.0
+HasPricesOf Stop (Some price) None = IsFillPrice price.0
+HasPricesOf StopLimit (Some price) (Some limit) = IsFillPrice price.0 × IsFillPrice limit.0
+HasPricesOf Market None None = Unit {0}
+HasPricesOf AtOpen None None = Unit {0}
+HasPricesOf _ _ _ = ⊥
 
 -- what may happen to an order of a symbol
 abbrev pub IsWhat : List ℕ → What → Type 0
-IsWhat symbol (Submitted kind quantity price) = IsQuantity quantity.0 × HasPriceOf kind price
+IsWhat symbol (Submitted kind quantity price limit) = IsQuantity quantity.0 × HasPricesOf kind price limit
 IsWhat symbol (Updated price) = IsFillPrice price.0
 IsWhat symbol (Filled fill) = IsFill fill × (fill.symbol ≡ symbol)
 IsWhat symbol Canceled = Unit {0}

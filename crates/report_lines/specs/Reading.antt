@@ -7,7 +7,7 @@ use Rattle.lean_fixed.specs.declared.money.Price.{Price}
 use Rattle.lean_fixed.specs.declared.money.Shares.{Shares}
 use Rattle.lean_fixed.specs.declared.money.Money.{Money}
 use Rattle.lean_orders.specs.declared.order.Kind.{Kind}
-use Rattle.lean_orders.specs.declared.order.Kind.TheVariants.{Market, Limit, Stop, AtOpen}
+use Rattle.lean_orders.specs.declared.order.Kind.TheVariants.{Market, Limit, Stop, AtOpen, StopLimit}
 use Rattle.lean_orders.specs.declared.event.Cause.{Cause}
 use Rattle.lean_orders.specs.declared.event.Cause.TheVariants.{Quantity, NoPrice, PriceForm, BuyingPower, Unknown, Closed}
 use Rattle.lean_orders.specs.declared.event.What.{What}
@@ -46,6 +46,7 @@ kind_of_text text =
     else if bytes_eq text (codes "limit") then Some Limit
     else if bytes_eq text (codes "stop") then Some Stop
     else if bytes_eq text (codes "open") then Some AtOpen
+    else if bytes_eq text (codes "stop-limit") then Some StopLimit
     else None
 
 abbrev pub cause_of_text : List ℕ → Option Cause
@@ -58,18 +59,30 @@ cause_of_text text =
     else if bytes_eq text (codes "closed") then Some Closed
     else None
 
--- the price of a kind: of a limit or stop order a price, and of the others '-'
-abbrev pub no_price : List ℕ → Option (Option Price)
-no_price text = if bytes_eq text (45 ∷ []) then Some None else None
+-- the price and the limit of a kind: of a limit or stop order a price, of a stop-limit order both, and of the others '-'
+abbrev pub no_price : List ℕ → Option (Option Price × Option Price)
+no_price text = if bytes_eq text (45 ∷ []) then Some (None, None) else None
 
-abbrev pub kept_price_of : Kind → List ℕ → Option (Option Price)
-kept_price_of Market text = no_price text
-kept_price_of Limit text = option_map Some (price_of_text text)
-kept_price_of Stop text = option_map Some (price_of_text text)
-kept_price_of AtOpen text = no_price text
+abbrev pub one_price : List ℕ → Option (Option Price × Option Price)
+one_price text = option_map (λ price. (Some price, None)) (price_of_text text)
+
+abbrev pub limit_step : List ℕ × List ℕ → Option (Option Price × Option Price)
+limit_step parts =
+    option_and_then (λ price. option_map (λ limit. (Some price, Some limit)) (price_of_text parts.1)) (price_of_text parts.0)
+
+abbrev pub two_prices : List ℕ → Option (Option Price × Option Price)
+two_prices text = option_and_then limit_step (cut text)
+
+abbrev pub kept_prices_of : Kind → List ℕ → Option (Option Price × Option Price)
+kept_prices_of Market text = no_price text
+kept_prices_of Limit text = one_price text
+kept_prices_of Stop text = one_price text
+kept_prices_of AtOpen text = no_price text
+kept_prices_of StopLimit text = two_prices text
 
 abbrev pub price_step : Kind → Shares → List ℕ → Option What
-price_step kind quantity text = option_map (Submitted kind quantity) (kept_price_of kind text)
+price_step kind quantity text =
+    option_map (λ prices. Submitted kind quantity prices.0 prices.1) (kept_prices_of kind text)
 
 abbrev pub quantity_step : Kind → List ℕ × List ℕ → Option What
 quantity_step kind parts = option_and_then (λ quantity. price_step kind quantity parts.1) (quantity_of_text parts.0)
@@ -77,7 +90,7 @@ quantity_step kind parts = option_and_then (λ quantity. price_step kind quantit
 abbrev pub kind_step : List ℕ × List ℕ → Option What
 kind_step parts = option_and_then (λ kind. option_and_then (quantity_step kind) (cut parts.1)) (kind_of_text parts.0)
 
--- a kind, a quantity and a price
+-- a kind, a quantity and its prices
 abbrev pub submitted_of_text : List ℕ → Option What
 submitted_of_text text = option_and_then kind_step (cut text)
 

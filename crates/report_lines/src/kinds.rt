@@ -7,13 +7,14 @@ use lean_orders::{Cause, Kind};
 /// The word of a kind.
 pub fn kind_word(kind: Kind) -> &'static [u8]
     ensures value { result.now ≡ kind_text kind }
-    ensures short { length result.now ≤ 6 }
+    ensures short { length result.now ≤ 10 }
 {
     match kind {
         Kind::Market => b"market",
         Kind::Limit => b"limit",
         Kind::Stop => b"stop",
         Kind::AtOpen => b"open",
+        Kind::StopLimit => b"stop-limit",
     }
 }
 
@@ -33,6 +34,9 @@ pub fn read_kind(word: &[u8]) -> Option<Kind>
     }
     if word == b"open".as_slice() {
         return Some(Kind::AtOpen);
+    }
+    if word == b"stop-limit".as_slice() {
+        return Some(Kind::StopLimit);
     }
     None
 }

@@ -1,10 +1,11 @@
-ghost use Rattle.std.specs.Prelude.{◌≡◌, ◌≤◌, ℕ, List, None, codes, decimal, option_map, option_and_then, IfSome};
+ghost use Rattle.std.specs.Prelude.{◌≡◌, ◌≤◌, ℕ, List, codes, decimal, option_map, option_and_then, IfSome};
 ghost use Rattle.lean_fixed.specs.Ranges.{last_printed_moment};
 ghost use Rattle.lean_orders.specs.declared.event.What.TheVariants.{Updated, Invalid};
+ghost use Rattle.lean_orders.specs.declared.order.Kind.TheVariants.{Limit, AtOpen, StopLimit};
 ghost use Rattle.lean_fixed.specs.Printed.{moment_text};
 ghost use Rattle.report_lines.specs.Words.{spaced, cut};
-ghost use Rattle.report_lines.specs.EventLines.{HasPriceOf, IsWhat, IsEvent, price_or_dash, what_text, event_line};
-ghost use Rattle.report_lines.specs.Reading.{price_of_text, cause_of_text, no_price, kept_price_of, submitted_of_text, filled_of_text, what_step, what_of_text, symbol_step, event_with, id_step, order_of_text, event_of_text};
+ghost use Rattle.report_lines.specs.EventLines.{HasPricesOf, IsWhat, IsEvent, prices_text, what_text, event_line};
+ghost use Rattle.report_lines.specs.Reading.{price_of_text, cause_of_text, no_price, one_price, two_prices, kept_prices_of, submitted_of_text, filled_of_text, what_step, what_of_text, symbol_step, event_with, id_step, order_of_text, event_of_text};
 
 use crate::kinds::{read_cause, read_kind};
 use crate::moments::read_moment;
@@ -138,32 +139,53 @@ fn read_submitted(text: &[u8]) -> Option<What>
     let kind = read_kind(word)?;
     let (word, rest) = cut(rest)?;
     let quantity = read_quantity(word)?;
-    let price = read_kept_price(kind, rest)?;
-    Some(What::Submitted(kind, quantity, price))
+    let (price, limit) = read_kept_prices(kind, rest)?;
+    Some(What::Submitted(kind, quantity, price, limit))
 }
 
-// The price of a limit or stop order, and `-` for that of the others.
-fn read_kept_price(kind: Kind, text: &[u8]) -> Option<Option<Price>>
-    ensures value { result ≡ kept_price_of kind text.now }
-    ensures kept { IfSome result (HasPriceOf kind) }
-    ensures same { IfSome result (λ price. price_or_dash price ≡ text.now) }
+// The price of a limit or stop order, that and the limit of a stop-limit order, and `-` for those of the others.
+fn read_kept_prices(kind: Kind, text: &[u8]) -> Option<(Option<Price>, Option<Price>)>
+    ensures value { result ≡ kept_prices_of kind text.now }
+    ensures kept { IfSome result (λ prices. HasPricesOf kind prices.0 prices.1) }
+    ensures same { IfSome result (λ prices. prices_text prices.0 prices.1 ≡ text.now) }
 {
     match kind {
-        Kind::Limit | Kind::Stop => Some(Some(read_price(text)?)),
+        Kind::Limit | Kind::Stop => one_price(text),
         Kind::Market | Kind::AtOpen => no_price(text),
+        Kind::StopLimit => two_prices(text),
     }
 }
 
-fn no_price(text: &[u8]) -> Option<Option<Price>>
+fn no_price(text: &[u8]) -> Option<(Option<Price>, Option<Price>)>
     ensures value { result ≡ no_price text.now }
-    ensures none { IfSome result (λ price. price ≡ None) }
-    ensures same { IfSome result (λ price. price_or_dash price ≡ text.now) }
+    ensures none { IfSome result (λ prices. HasPricesOf AtOpen prices.0 prices.1) }
+    ensures same { IfSome result (λ prices. prices_text prices.0 prices.1 ≡ text.now) }
 {
     if text == b"-".as_slice() {
-        Some(None)
+        Some((None, None))
     } else {
         None
     }
+}
+
+fn one_price(text: &[u8]) -> Option<(Option<Price>, Option<Price>)>
+    ensures value { result ≡ one_price text.now }
+    ensures one { IfSome result (λ prices. HasPricesOf Limit prices.0 prices.1) }
+    ensures same { IfSome result (λ prices. prices_text prices.0 prices.1 ≡ text.now) }
+{
+    let price = read_price(text)?;
+    Some((Some(price), None))
+}
+
+fn two_prices(text: &[u8]) -> Option<(Option<Price>, Option<Price>)>
+    ensures value { result ≡ two_prices text.now }
+    ensures both { IfSome result (λ prices. HasPricesOf StopLimit prices.0 prices.1) }
+    ensures same { IfSome result (λ prices. prices_text prices.0 prices.1 ≡ text.now) }
+{
+    let (word, rest) = cut(text)?;
+    let price = read_price(word)?;
+    let limit = read_price(rest)?;
+    Some((Some(price), Some(limit)))
 }
 
 fn read_filled(symbol: Symbol, text: &[u8]) -> Option<What>

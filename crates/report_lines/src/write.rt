@@ -2,7 +2,7 @@ ghost use Rattle.std.specs.Prelude.{◌≡◌, ◌+◌, ◌≤◌, [], ◌∷◌
 ghost use Rattle.lean_fixed.specs.Printed.{moment_text};
 ghost use Rattle.lean_fixed.specs.Ranges.{IsPrintedMoment};
 ghost use Rattle.lean_orders.specs.declared.event.What.TheVariants.{Submitted, Updated, Filled, Invalid};
-ghost use Rattle.report_lines.specs.EventLines.{price_or_dash, symbol_text, what_text, event_line, IsEvent};
+ghost use Rattle.report_lines.specs.EventLines.{price_or_dash, prices_text, symbol_text, what_text, event_line, IsEvent};
 
 use crate::kinds::{cause_word, kind_word};
 use crate::put::{put, put_moment, put_money, put_number, put_price, put_quantity, put_word};
@@ -87,7 +87,9 @@ fn put_what(what: &What, out: &mut Vec<u8>)
     ensures capacity { vec_capacity out.old ≤ vec_capacity out.new }
 {
     match what {
-        What::Submitted(kind, quantity, price) => put_submitted(*kind, *quantity, *price, out),
+        What::Submitted(kind, quantity, price, limit) => {
+            put_submitted(*kind, *quantity, *price, *limit, out)
+        }
         What::Updated(price) => put_updated(*price, out),
         What::Filled(fill) => put_filled(fill, out),
         What::Canceled => put(b"canceled", out),
@@ -95,9 +97,15 @@ fn put_what(what: &What, out: &mut Vec<u8>)
     }
 }
 
-fn put_submitted(kind: Kind, quantity: Shares, price: Option<Price>, out: &mut Vec<u8>)
+fn put_submitted(
+    kind: Kind,
+    quantity: Shares,
+    price: Option<Price>,
+    limit: Option<Price>,
+    out: &mut Vec<u8>,
+)
     requires { vec_len out.old + 120 ≤ vec_capacity out.old }
-    ensures items { out.new.items ≡ out.old.items ++ what_text (Submitted kind quantity price) }
+    ensures items { out.new.items ≡ out.old.items ++ what_text (Submitted kind quantity price limit) }
     ensures len { vec_len out.new ≤ vec_len out.old + 120 }
     ensures capacity { vec_capacity out.old ≤ vec_capacity out.new }
 {
@@ -105,7 +113,24 @@ fn put_submitted(kind: Kind, quantity: Shares, price: Option<Price>, out: &mut V
     put_word(kind_word(kind), out);
     put_quantity(quantity, out);
     put(b" ", out);
+    put_prices(price, limit, out);
+}
+
+// A price or `-`, and behind it the limit where there is one.
+fn put_prices(price: Option<Price>, limit: Option<Price>, out: &mut Vec<u8>)
+    requires { vec_len out.old + 43 ≤ vec_capacity out.old }
+    ensures items { out.new.items ≡ out.old.items ++ prices_text price limit }
+    ensures len { vec_len out.new ≤ vec_len out.old + 43 }
+    ensures capacity { vec_capacity out.old ≤ vec_capacity out.new }
+{
     put_price_or_dash(price, out);
+    match limit {
+        Some(limit) => {
+            put(b" ", out);
+            put_price(limit, out);
+        }
+        None => {}
+    }
 }
 
 fn put_price_or_dash(price: Option<Price>, out: &mut Vec<u8>)

@@ -9,19 +9,7 @@ use Rattle.lean_items.specs.declared.reason.Reason.{Reason}
 use Rattle.lean_items.specs.declared.reason.Reason.TheVariants.{Long, Many}
 use Rattle.lean_items.specs.Given.{GivesItem, OnRow, OnFaulted}
 use Rattle.lean_items.specs.Fits.{fits, end_or}
-
--- a feed of bars gives no coarse row, and a feed of coarse rows no bar
-abbrev pub IsOfKind : FeedKind → Item → Type 0
-IsOfKind CoarseFiles (Bar bar) = ⊥
-IsOfKind (Equity symbol resolution) (Coarse at row) = ⊥
-IsOfKind CoarseFiles (Coarse at row) = Unit {0}
-IsOfKind CoarseFiles (Bad bad) = Unit {0}
-IsOfKind CoarseFiles Faulted = Unit {0}
-IsOfKind CoarseFiles End = Unit {0}
-IsOfKind (Equity symbol resolution) (Bar bar) = Unit {0}
-IsOfKind (Equity symbol resolution) (Bad bad) = Unit {0}
-IsOfKind (Equity symbol resolution) Faulted = Unit {0}
-IsOfKind (Equity symbol resolution) End = Unit {0}
+pub use Rattle.clock_feeds.specs.Lists.{IsOfKind}
 
 -- of a list that was left an item was given, or the whole list is still left
 abbrev pub StepGives : (List Item → Type 0) → List Item → Option Item → Type 0

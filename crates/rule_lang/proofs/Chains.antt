@@ -2,13 +2,13 @@
 use Rattle.std.proofs.Common.{◌≡◌, ℕ, zero, suc, ◌-◌, ◌≤◌, ◌<◌, List, [], ◌∷◌, length, fold, Option, Some, None, Result, Ok, Err, refl, ap, ◌∙◌, arith}
 use Rattle.rule_lang.specs.declared.token.Level.{Level}
 use Rattle.rule_lang.specs.declared.token.Level.TheVariants.{Or, And, Compared, Sum, Term}
-use Rattle.rule_lang.specs.declared.token.Context.TheVariants.{Brackets, Not, Minus}
+use Rattle.rule_lang.specs.declared.token.Context.{Context}
 use Rattle.rule_lang.specs.declared.token.Token.{Token}
 use Rattle.rule_lang.specs.declared.fault.RuleFault.{RuleFault}
 use Rattle.rule_lang.specs.declared.fault.RuleFault.TheVariants.{At, NoMemory}
 use Rattle.rule_lang.specs.Tokens.{Fault}
 use Rattle.rule_lang.specs.Parts.{Part}
-use Rattle.rule_lang.specs.Grammar.{Parser, and_then, pure, Sign, Step, grown, sign, taken, steps, chain, factor, not, or, operand, opened}
+use Rattle.rule_lang.specs.Grammar.{Parser, and_then, pure, Sign, Step, grown, sign, taken, steps, chain, within, opened}
 use Rattle.rule_lang.specs.Reading.{Fails}
 
 -- how much work the operators of a level are
@@ -49,27 +49,21 @@ turn-step : (s : Sign) (left right : Part) (more : Result (List Step × List Tok
 turn-step s left right (Ok read) = refl
 turn-step s left right (Err fault) = refl
 
-goes_on : (level : Level) (operand : Parser Part) (whole : Read) (left right : Part) (rest behind after : List Token) (s : Sign) (turns : ℕ) → length rest ≤ turns → whole ≡ going level operand turns left rest → sign level rest ≡ Ok (Some s, behind) → length behind < length rest → operand behind ≡ Ok (right, after) → length after ≤ length behind → Goes level operand whole (grown left (s, right)) after
+pub goes-on : (level : Level) (operand : Parser Part) (whole : Read) (left right : Part) (rest behind after : List Token) (s : Sign) (turns : ℕ) → length rest ≤ turns → whole ≡ going level operand turns left rest → sign level rest ≡ Ok (Some s, behind) → length behind < length rest → operand behind ≡ Ok (right, after) → length after ≤ length behind → Goes level operand whole (grown left (s, right)) after
 unfolding steps
-goes_on level operand whole left right rest behind after s zero enough same e h o k = absurd (omega arith)
-goes_on level operand whole left right rest behind after s (suc turns) enough same e h o k = record {
+goes-on level operand whole left right rest behind after s zero enough same e h o k = absurd (omega arith)
+goes-on level operand whole left right rest behind after s (suc turns) enough same e h o k = record {
   turns = turns;
   enough = omega arith;
   same = (rw (e, o) at same) ∙ turn-step s left right (steps level operand turns after);
 }
 
-pub goes-on : (level : Level) (operand : Parser Part) (whole : Read) (left right : Part) (rest behind after : List Token) (s : Sign) → Goes level operand whole left rest → sign level rest ≡ Ok (Some s, behind) → length behind < length rest → operand behind ≡ Ok (right, after) → length after ≤ length behind → Goes level operand whole (grown left (s, right)) after
-goes-on level operand whole left right rest behind after s g e h o k = goes_on level operand whole left right rest behind after s g.turns g.enough g.same e h o k
-
 -- an operand that fails ends the chain with its fault
-goes_fails : (level : Level) (operand : Parser Part) (whole : Read) (left : Part) (rest behind : List Token) (s : Sign) (fault : RuleFault) (turns : ℕ) → length rest ≤ turns → whole ≡ going level operand turns left rest → sign level rest ≡ Ok (Some s, behind) → length behind < length rest → Fails (operand behind) fault → Fails whole fault
+pub goes-fails : (level : Level) (operand : Parser Part) (whole : Read) (left : Part) (rest behind : List Token) (s : Sign) (fault : RuleFault) (turns : ℕ) → length rest ≤ turns → whole ≡ going level operand turns left rest → sign level rest ≡ Ok (Some s, behind) → length behind < length rest → Fails (operand behind) fault → Fails whole fault
 unfolding steps
-goes_fails level operand whole left rest behind s NoMemory turns enough same e h o = tt
-goes_fails level operand whole left rest behind s (At error at) zero enough same e h o = absurd (omega arith)
-goes_fails level operand whole left rest behind s (At error at) (suc turns) enough same e h o = rw (e, o) at same
-
-pub goes-fails : (level : Level) (operand : Parser Part) (whole : Read) (left : Part) (rest behind : List Token) (s : Sign) (fault : RuleFault) → Goes level operand whole left rest → sign level rest ≡ Ok (Some s, behind) → length behind < length rest → Fails (operand behind) fault → Fails whole fault
-goes-fails level operand whole left rest behind s fault g e h o = goes_fails level operand whole left rest behind s fault g.turns g.enough g.same e h o
+goes-fails level operand whole left rest behind s NoMemory turns enough same e h o = tt
+goes-fails level operand whole left rest behind s (At error at) zero enough same e h o = absurd (omega arith)
+goes-fails level operand whole left rest behind s (At error at) (suc turns) enough same e h o = rw (e, o) at same
 
 -- behind the last token there is no operator
 rest_in : Result (Option Sign × List Token) Fault → List Token
@@ -82,26 +76,13 @@ sign-empty level [] after h e = ap rest_in e
 sign-empty level (t ∷ ts) after h e = absurd (omega arith)
 
 -- with no operator left the tree so far is the whole
-goes_end : (level : Level) (operand : Parser Part) (whole : Read) (left : Part) (rest after : List Token) (turns : ℕ) → length rest ≤ turns → whole ≡ going level operand turns left rest → sign level rest ≡ Ok (None, after) → whole ≡ Ok (left, after)
+pub goes-end : (level : Level) (operand : Parser Part) (whole : Read) (left : Part) (rest after : List Token) (turns : ℕ) → length rest ≤ turns → whole ≡ going level operand turns left rest → sign level rest ≡ Ok (None, after) → whole ≡ Ok (left, after)
 unfolding steps
-goes_end level operand whole left rest after zero enough same e = same ∙ ap (λ ts. Ok (left, ts)) (sign-empty level rest after (omega arith) e)
-goes_end level operand whole left rest after (suc turns) enough same e = rw e at same
-
-pub goes-end : (level : Level) (operand : Parser Part) (whole : Read) (left : Part) (rest after : List Token) → Goes level operand whole left rest → sign level rest ≡ Ok (None, after) → whole ≡ Ok (left, after)
-goes-end level operand whole left rest after g e = goes_end level operand whole left rest after g.turns g.enough g.same e
+goes-end level operand whole left rest after zero enough same e = same ∙ ap (λ ts. Ok (left, ts)) (sign-empty level rest after (omega arith) e)
+goes-end level operand whole left rest after (suc turns) enough same e = rw e at same
 
 -- one level fewer can be opened inside
-pub opened-brackets : (levels at : ℕ) → 0 < levels → opened levels Brackets at ≡ chain Or (operand (opened (levels - 1)) Or)
-unfolding opened or
-opened-brackets zero at h = absurd (omega arith)
-opened-brackets (suc levels) at h = rw (let e : suc levels - 1 ≡ levels = omega arith in e) refl
-
-pub opened-not : (levels at : ℕ) → 0 < levels → opened levels Not at ≡ not (opened (levels - 1))
+pub opened-within : (levels at : ℕ) (inside : Context) → 0 < levels → opened levels inside at ≡ within (opened (levels - 1)) inside
 unfolding opened
-opened-not zero at h = absurd (omega arith)
-opened-not (suc levels) at h = rw (let e : suc levels - 1 ≡ levels = omega arith in e) refl
-
-pub opened-minus : (levels at : ℕ) → 0 < levels → opened levels Minus at ≡ factor (opened (levels - 1))
-unfolding opened
-opened-minus zero at h = absurd (omega arith)
-opened-minus (suc levels) at h = rw (let e : suc levels - 1 ≡ levels = omega arith in e) refl
+opened-within zero at inside h = absurd (omega arith)
+opened-within (suc levels) at inside h = rw (let e : suc levels - 1 ≡ levels = omega arith in e) refl

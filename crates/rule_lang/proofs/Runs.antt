@@ -1,8 +1,9 @@
 -- Runs of bytes, digits and entries of tables, as loops come to them.
-use Rattle.std.proofs.Common.{◌≡◌, ℕ, zero, suc, ◌+◌, ◌-◌, ◌*◌, ◌^◌, ◌≤◌, ◌<◌, Bool, true, false, ◌&&◌, cond, if◌then◌else◌, List, [], ◌∷◌, length, get_or, take, drop, drop-cons, add-one, refl, arith, inl, inr}
-use Rattle.std.specs.List.{list_all, prefix_len}
+use Rattle.std.proofs.Common.{◌≡◌, ℕ, zero, suc, ◌+◌, ◌-◌, ◌*◌, ◌^◌, ◌≤◌, ◌<◌, Bool, true, false, ◌&&◌, cond, nat_eq, if◌then◌else◌, List, [], ◌∷◌, length, get_or, take, drop, drop-cons, length-take, add-one, refl, ap, arith, inl, inr}
+use Rattle.std.specs.List.{list_all, starts_with, prefix_len}
+use lib.Pointwise.{pointwise}
 use Rattle.std.specs.Borrow.{Bor}
-use Rattle.std.proofs.lemmas.Bool.{cases_Bool}
+use Rattle.std.proofs.lemmas.Bool.{cases_Bool, and_parts}
 use Rattle.std.proofs.lemmas.Bool.Decides.{nat_tests}
 use Rattle.std.proofs.lemmas.List.Folds.{list_all_at}
 use Rattle.lean_fixed.specs.Digits.{is_digit}
@@ -29,6 +30,16 @@ list_all-whole p (x ∷ xs) h = one_more (p x) (list_all-whole p xs) h
 pub lexeme_among-drop : (test : List ℕ → Bool) (entries : List (Bor (List ℕ) × Kind)) (i : ℕ) (d : Bor (List ℕ) × Kind) → i < length entries → lexeme_among test (table (drop i entries)) ≡ (if test (get_or entries i d).0.now then Lexeme (get_or entries i d).1 (length (get_or entries i d).0.now) else lexeme_among test (table (drop (i + 1) entries)))
 lexeme_among-drop test entries i d h = rw (add-one, drop-cons entries i d) refl
 
+-- a text is no shorter than what it begins with
+pointwise-length : (xs ys : List ℕ) → pointwise nat_eq xs ys ≡ true → length xs ≡ length ys
+pointwise-length [] [] h = refl
+pointwise-length [] (y ∷ ys) h = cc
+pointwise-length (x ∷ xs) [] h = cc
+pointwise-length (x ∷ xs) (y ∷ ys) h = ap suc (pointwise-length xs ys (and_parts (nat_eq x y) (pointwise nat_eq xs ys) h).1)
+
+pub starts-within : (text start : List ℕ) → starts_with nat_eq text start ≡ true → length start ≤ length text
+starts-within text start begins = omega (arith, length-take (length start) text, pointwise-length start (take (length start) text) begins)
+
 -- one more digit
 next_digit : (n b i : ℕ) → i < 18 → b - 48 ≤ 9 → n < 10 ^ i → (n * 10 < 2 ^ 64) × (n * 10 + (b - 48) < 2 ^ 64) × (n * 10 + (b - 48) < 10 ^ (i + 1))
 next_digit n b i h digit small =
@@ -53,6 +64,6 @@ value-next digits n i all short here small =
 
 pub ruleset runs = (prefix_len-drop_yes, prefix_len-drop_no, prefix_len-drop_all)
 
-pub ruleset tables = (lexeme_among-drop)
+pub ruleset tables = (lexeme_among-drop, starts-within)
 
 pub ruleset digits = (value-next)

@@ -1,5 +1,5 @@
 -- The tokens of what is left of a text, one at a time.
-use Rattle.std.proofs.Common.{◌≡◌, ℕ, zero, suc, ◌+◌, ◌-◌, ◌≤◌, ◌<◌, List, [], ◌∷◌, ◌++◌, length, take, drop, length-drop, Result, Ok, Err, refl, sym, ap, ◌∙◌, arith}
+use Rattle.std.proofs.Common.{◌≡◌, ℕ, zero, suc, ◌+◌, ◌-◌, ◌≤◌, ◌<◌, max, List, [], ◌∷◌, ◌++◌, length, take, drop, length-drop, Result, Ok, Err, refl, sym, ap, ◌∙◌, arith}
 use Rattle.std.proofs.lemmas.List.{take_rest}
 use Rattle.std.proofs.Math.Seq.{drop-drop, drop-length}
 use Rattle.rule_lang.specs.declared.fault.RuleError.{RuleError}
@@ -51,10 +51,10 @@ tokens-step text at front h e =
 pub tokens-blank : (text : List ℕ) (at : ℕ) (ts : List Token) → at < length text → Blank ≡ front_of (take (length text - at) (drop at text)) → tokens_from 0 0 text ≡ behind ts (tokens_from at 0 (drop at text)) → tokens_from 0 0 text ≡ behind ts (tokens_from (at + 1) 0 (drop (at + 1) text))
 tokens-blank text at ts h e rest = rest ∙ ap (behind ts) (tokens-step text at Blank h e)
 
-pub tokens-lexeme : (text : List ℕ) (at : ℕ) (ts : List Token) (sort : Kind) (size : ℕ) → at < length text → 1 ≤ size → size ≤ length text - at → Lexeme sort size ≡ front_of (take (length text - at) (drop at text)) → tokens_from 0 0 text ≡ behind ts (tokens_from at 0 (drop at text)) → tokens_from 0 0 text ≡ behind (ts ++ record { kind = sort; at = at } ∷ []) (tokens_from (at + size) 0 (drop (at + size) text))
-tokens-lexeme text at ts sort size h some within e rest =
+pub tokens-lexeme : (text : List ℕ) (at : ℕ) (ts : List Token) (sort : Kind) (size : ℕ) → at < length text → size ≤ length text - at → Lexeme sort size ≡ front_of (take (length text - at) (drop at text)) → tokens_from 0 0 text ≡ behind ts (tokens_from at 0 (drop at text)) → tokens_from 0 0 text ≡ behind (ts ++ record { kind = sort; at = at } ∷ []) (tokens_from (at + max size 1) 0 (drop (at + max size 1) text))
+tokens-lexeme text at ts sort size h within e rest =
     let inside = tokens-inside (at + 1) (size - 1) (drop (at + 1) text) (omega (arith, length-drop (at + 1) text)) in
-    let place : at + 1 + (size - 1) ≡ at + size = omega arith in
+    let place : at + 1 + (size - 1) ≡ at + max size 1 = omega arith in
     let step = tokens-step text at (Lexeme sort size) h e in
     rest ∙ ap (behind ts) (step ∙ ap (put (record { kind = sort; at = at })) (rw (place, drop-drop, place) at inside)) ∙ sym (behind-push ts (record { kind = sort; at = at }) _)
 

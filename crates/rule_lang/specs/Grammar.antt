@@ -111,25 +111,19 @@ unfoldable pub steps : Level → Parser Part → ℕ → Parser (List Step)
 steps level operand zero = pure []
 steps level operand (suc turns) = sign level >>= step_by operand (steps level operand turns)
 
+abbrev pub operands : Level → Parser Part → ℕ → Parser Part
+operands level operand turns = do
+  first ← operand
+  others ← steps level operand turns
+  pure (fold grown first others)
+
 -- operand { sign operand }: each operator takes all to its left as one operand. There are no more turns than tokens.
 unfoldable pub chain : Level → Parser Part → Parser Part
-chain level operand = λ ts. (do
-  first ← operand
-  others ← steps level operand (length ts)
-  pure (fold grown first others)) ts
+chain level operand = λ ts. operands level operand (length ts) ts
 
 -- operand [ sign operand ]
-abbrev pub pair_by : Parser Part → Part → Option Sign → Parser Part
-pair_by operand left None = pure left
-pair_by operand left (Some s) = do
-  right ← operand
-  pure (grown left (s, right))
-
 unfoldable pub pair : Level → Parser Part → Parser Part
-pair level operand = do
-  left ← operand
-  s ← sign level
-  pair_by operand left s
+pair level operand = operands level operand 1
 
 -- the length of a window: a number without a point from 1 to 1,000
 abbrev pub length_by : ℕ → Kind → Parser ℕ
@@ -198,6 +192,12 @@ module _ (opened : Context → ℕ → Parser Part) where
   unfoldable pub or : Parser Part
   or = chain Or and
 
+  -- what stands inside each level
+  abbrev pub within : Context → Parser Part
+  within context.Brackets = or
+  within context.Not = not
+  within context.Minus = factor
+
   -- the operands of the operators of each level
   abbrev pub operand : Level → Parser Part
   operand Or = and
@@ -209,9 +209,7 @@ module _ (opened : Context → ℕ → Parser Part) where
 -- what stands inside one more level, while so many can still be opened
 unfoldable pub opened : ℕ → Context → ℕ → Parser Part
 opened zero inside at = fails error.Depth at
-opened (suc levels) context.Brackets at = or (opened levels)
-opened (suc levels) context.Not at = not (opened levels)
-opened (suc levels) context.Minus at = factor (opened levels)
+opened (suc levels) inside at = within (opened levels) inside
 
 -- a whole text, in which up to 32 levels are open at a place
 unfoldable pub whole : Parser Part

@@ -51,15 +51,11 @@ ArePlaced (c.And' p x q y) from = ArePlaced x from × ArePlaced y (from + length
 ArePlaced (c.Or' p x q y) from = ArePlaced x from × ArePlaced y (from + length (windows_under (condition_of x)))
 ArePlaced (c.Compare op x y) from = IsPlaced x from × IsPlaced y (from + length (windows_in (amount_of x)))
 
--- the length of a window
-abbrev pub HasLength : WindowSpec → Type 0
-HasLength spec = IsLength spec.length
-
 -- a tree whose windows were put behind those of a list, and so have their places
 pub record Adds (IsAt : ℕ → Type 0) (windows old new : List WindowSpec) : Type 0 where
   pub placed : IsAt (length old)
   pub behind : new ≡ old ++ windows
-  pub lengths : All HasLength old → All HasLength new
+  pub lengths : All (λ spec. IsLength spec.length) old → All (λ spec. IsLength spec.length) new
 
 abbrev pub AddsAmount : a.Amount → List WindowSpec → List WindowSpec → Type 0
 AddsAmount x old new = Adds (IsPlaced x) (windows_in (amount_of x)) old new

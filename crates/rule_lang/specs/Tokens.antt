@@ -132,7 +132,7 @@ tokens text = tokens_from 0 0 text
 
 -- what stands at the front of a text is within it
 abbrev pub IsWithin : Front → ℕ → Type 0
-IsWithin (Lexeme sort size) most = (1 ≤ size) × (size ≤ most)
+IsWithin (Lexeme sort size) most = size ≤ most
 IsWithin _ most = Unit {0}
 
 -- a table of texts, as the code holds it

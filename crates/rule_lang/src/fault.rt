@@ -17,7 +17,8 @@ pub enum Want {
 pub enum RuleError {
     /// No token begins here, or a word that the language doesn't have.
     Token,
-    /// A number with too many digits, or a length of a window that is not a whole number from 1 to 1,000.
+    /// A number with too many digits, or none behind its point, or a length of a window that is not a whole number from 1
+    /// to 1,000.
     Number,
     /// A token that can't stand here, or the end of the text where more is wanted.
     Syntax,

@@ -150,7 +150,7 @@ impl Reader<'_> {
 
     // Two operands and a comparison between them, or one operand.
     #[cycle(grammar)]
-    #[tactic(auto, unfolding(crate::specs::Grammar::cmp, crate::specs::Grammar::pair))]
+    #[tactic(auto, unfolding(crate::specs::Grammar::cmp, crate::specs::Grammar::pair, crate::specs::Grammar::steps))]
     fn comparison(&mut self, levels: u32) -> Result<Part, RuleFault>
         ensures { ReadsPart (spec.cmp (spec.opened levels)) self.old self.new result }
     {

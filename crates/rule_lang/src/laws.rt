@@ -12,6 +12,7 @@ ghost use Rattle.rule_lang.specs.Closes.{values_over, number_over, truth_over};
 
 /// An expression that was read gives a value of the kind that was wanted. That its operators have operands of the kinds
 /// that they take is the type of the tree.
+#[tactic(auto, unfolding(crate::specs::Reading::reading))]
 pub fn read_is_typed()
     ensures { (text : List ℕ) (want : Want) (tree : Tree) → reading text want ≡ Ok tree → kind_of tree ≡ want }
 {}

@@ -1,6 +1,6 @@
 //! From bytes to tokens.
 
-ghost use Rattle.std.specs.Prelude.{◌≡◌, ◌≤◌, ◌&&◌, nat_le, nat_eq, bytes_eq, true, length, take_while, Some, IfSome, option_map};
+ghost use Rattle.std.specs.Prelude.{◌≡◌, ℕ, ◌+◌, ◌≤◌, ◌&&◌, nat_le, nat_eq, bytes_eq, true, length, take_while, Some, IfSome, option_map};
 ghost use Rattle.std.specs.Option.{ForSome};
 ghost use Rattle.std.specs.List.{list_all, starts_with};
 ghost use Rattle.lean_fixed.specs.Digits.{is_digit, value_of};
@@ -70,7 +70,8 @@ pub fn tokens(alloc: Global, text: &[u8]) -> Result<Vec<Token>, RuleFault>
                     kind,
                     at: at as u32,
                 })?;
-                at += size;
+                // a token has at least one byte
+                at += size.max(1);
             }
             Front::Bad(error) => return Err(RuleFault::At(error, at as u32)),
         }
@@ -102,6 +103,7 @@ fn front_of(text: &[u8]) -> Front
 fn run(text: &[u8], low: u8, high: u8) -> &[u8]
     ensures run { result.now ≡ take_while (λ b. nat_le low b && nat_le b high) text.now }
     ensures each { list_all (λ b. nat_le low b && nat_le b high) result.now ≡ true }
+    ensures within { length result.now ≤ length text.now }
 {
     for (i, byte) in text.iter().enumerate() {
         if *byte < low || *byte > high {
@@ -113,7 +115,8 @@ fn run(text: &[u8], low: u8, high: u8) -> &[u8]
 
 #[tactic(auto, unfolding(crate::specs::Tokens::word_at))]
 fn word_at(text: &[u8]) -> Front
-    ensures { result ≡ word_at text.now }
+    ensures front { result ≡ word_at text.now }
+    ensures within { IsWithin result (length text.now) }
 {
     entry_of(&WORDS, run(text, b'a', b'z'))
 }
@@ -121,7 +124,8 @@ fn word_at(text: &[u8]) -> Front
 // The entry of a table that is this word.
 #[tactic(auto, using(crate::proofs::Runs::tables))]
 fn entry_of(entries: &[(&[u8], Kind)], word: &[u8]) -> Front
-    ensures { result ≡ lexeme_among (λ entry. bytes_eq entry word.now) (table entries.now) }
+    ensures entry { result ≡ lexeme_among (λ entry. bytes_eq entry word.now) (table entries.now) }
+    ensures within { IsWithin result (length word.now) }
 {
     for (entry, kind) in entries {
         if *entry == word {
@@ -133,7 +137,8 @@ fn entry_of(entries: &[(&[u8], Kind)], word: &[u8]) -> Front
 
 #[tactic(auto, unfolding(crate::specs::Tokens::sign_at))]
 fn sign_at(text: &[u8]) -> Front
-    ensures { result ≡ sign_at text.now }
+    ensures front { result ≡ sign_at text.now }
+    ensures within { IsWithin result (length text.now) }
 {
     leading_entry(&SIGNS, text)
 }
@@ -141,7 +146,8 @@ fn sign_at(text: &[u8]) -> Front
 // The first entry of a table with which a text begins.
 #[tactic(auto, using(crate::proofs::Runs::tables))]
 fn leading_entry(entries: &[(&[u8], Kind)], text: &[u8]) -> Front
-    ensures { result ≡ lexeme_among (λ entry. starts_with nat_eq text.now entry) (table entries.now) }
+    ensures entry { result ≡ lexeme_among (λ entry. starts_with nat_eq text.now entry) (table entries.now) }
+    ensures within { IsWithin result (length text.now) }
 {
     for (entry, kind) in entries {
         if text.starts_with(entry) {
@@ -153,7 +159,8 @@ fn leading_entry(entries: &[(&[u8], Kind)], text: &[u8]) -> Front
 
 #[tactic(auto, unfolding(crate::specs::Tokens::number_at))]
 fn number_at(text: &[u8]) -> Front
-    ensures { result ≡ number_at text.now }
+    ensures front { result ≡ number_at text.now }
+    ensures within { IsWithin result (length text.now) }
 {
     let whole = run(text, b'0', b'9');
     numeral(whole, places_at(&text[whole.len()..]))
@@ -163,6 +170,7 @@ fn number_at(text: &[u8]) -> Front
 fn places_at(text: &[u8]) -> Option<&[u8]>
     ensures places { option_map (λ places. places.now) result ≡ places_at text.now }
     ensures digits { IfSome result (λ places. list_all is_digit places.now ≡ true) }
+    ensures within { IfSome result (λ places. 1 + length places.now ≤ length text.now) }
 {
     match text {
         [b'.', places @ ..] => Some(run(places, b'0', b'9')),
@@ -174,7 +182,9 @@ fn places_at(text: &[u8]) -> Option<&[u8]>
 fn numeral(whole: &[u8], places: Option<&[u8]>) -> Front
     requires whole { list_all is_digit whole.now ≡ true }
     requires places { ForSome places (λ places. list_all is_digit places.now ≡ true) }
-    ensures { result ≡ numeral whole.now (option_map (λ p. p.now) places.entry) }
+    ensures front { result ≡ numeral whole.now (option_map (λ p. p.now) places.entry) }
+    ensures within { (most : ℕ) → length whole.now ≤ most
+        → ForSome places.entry (λ places. length whole.now + 1 + length places.now ≤ most) → IsWithin result most }
 {
     if whole.len() > MOST_DIGITS {
         return Front::Bad(RuleError::Number);
@@ -189,7 +199,8 @@ fn decimal(whole: &[u8], places: &[u8]) -> Front
     requires whole { list_all is_digit whole.now ≡ true }
     requires short { length whole.now ≤ 18 }
     requires places { list_all is_digit places.now ≡ true }
-    ensures { result ≡ numeral whole.now (Some places.now) }
+    ensures front { result ≡ numeral whole.now (Some places.now) }
+    ensures within { IsWithin result (length whole.now + 1 + length places.now) }
 {
     if !are_places(places) {
         return Front::Bad(RuleError::Number);

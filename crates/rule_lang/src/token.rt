@@ -77,7 +77,7 @@ pub enum Front {
     Blank,
     /// A token and the number of its bytes.
     Lexeme(Kind, usize),
-    /// No token begins here, or a number has too many digits.
+    /// No token begins here, or a number has too many digits or none behind its point.
     Bad(RuleError),
 }
 

@@ -127,7 +127,9 @@ given_by after (Bar bar ∷ given) rest t low r before =
     let up : bar.end.0 <ℤ pos (t + 1) = All-head (λ item. EndsBefore (pos (t + 1)) (end_of item)) (Bar bar) given before in
     rw (end_by bar.end.0 t end up) (given_by bar.end.0 given rest t end r.1 (All-tail (λ item. EndsBefore (pos (t + 1)) (end_of item)) (Bar bar) given before))
 given_by after (Coarse at row ∷ given) rest t low r before =
-    given_by at.0 given rest t (next_end after (Coarse at row) (given ++ rest) low r) r.1 (All-tail (λ item. EndsBefore (pos (t + 1)) (end_of item)) (Coarse at row) given before)
+    let end : pos 0 ≤ℤ at.0 = next_end after (Coarse at row) (given ++ rest) low r in
+    let up : at.0 <ℤ pos (t + 1) = All-head (λ item. EndsBefore (pos (t + 1)) (end_of item)) (Coarse at row) given before in
+    rw (end_by at.0 t end up) (given_by at.0 given rest t end r.1 (All-tail (λ item. EndsBefore (pos (t + 1)) (end_of item)) (Coarse at row) given before))
 given_by after (Bad bad ∷ given) rest t low r before = absurd (All-head (λ item. EndsBefore (pos (t + 1)) (end_of item)) (Bad bad) given before)
 given_by after (Faulted ∷ given) rest t low r before = absurd (All-head (λ item. EndsBefore (pos (t + 1)) (end_of item)) Faulted given before)
 given_by after (End ∷ given) rest t low r before = absurd (All-head (λ item. EndsBefore (pos (t + 1)) (end_of item)) End given before)

@@ -14,3 +14,7 @@ returns-clause-rows c = refl
 pub returns-clause-stop : goal.returns-clause-stop
 unfolding coarse_of coarse_raw coarse_row path_of day_text civil_of carried_through
 returns-clause-stop c = refl
+
+pub returns-clause-blocked : goal.returns-clause-blocked
+unfolding coarse_of coarse_raw coarse_row path_of day_text civil_of carried_through
+returns-clause-blocked c = refl

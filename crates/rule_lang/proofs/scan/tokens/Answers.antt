@@ -13,10 +13,10 @@ pub loop-at-preserved : goal.loop-at-preserved
 loop-at-preserved c =
     let size = c.in-Lexeme.ensures.within in
     let cut = length-drop c.loop-at.at c.args.text.now in
-    let within : c.in-Lexeme.size ≤ length c.args.text.now - c.loop-at.at = rw (take_rest, length-drop) at size.1 in
+    let within : c.in-Lexeme.size ≤ length c.args.text.now - c.loop-at.at = rw (take_rest, length-drop) at size in
     record {
       within = omega arith;
-      rest = rw c.in_ok-push-in-Lexeme.ensures.items (tokens-lexeme c.args.text.now c.loop-at.at c.loop-at.tokens.items c.in-Lexeme.kind c.in-Lexeme.size c.loop-at-test.true size.0 within c.in-Lexeme.ensures.front c.loop-at.invariant.rest);
+      rest = rw (c.in_ok-push-in-Lexeme.ensures.items, c.max-at.ensures) (tokens-lexeme c.args.text.now c.loop-at.at c.loop-at.tokens.items c.in-Lexeme.kind c.in-Lexeme.size c.loop-at-test.true within c.in-Lexeme.ensures.front c.loop-at.invariant.rest);
     }
 
 pub returns-in-Bad : goal.returns-in-Bad

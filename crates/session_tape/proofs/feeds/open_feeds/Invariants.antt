@@ -1,5 +1,5 @@
 -- The feeds of the first symbols were opened.
-use Rattle.std.proofs.Common.{◌≡◌, ℕ, ◌+◌, ◌≤◌, take}
+use Rattle.std.proofs.Common.{◌≡◌, ◌+◌, ◌≤◌, take}
 use Rattle.lean_fixed.specs.Moments.{first_moment}
 use Rattle.lean_items.specs.Taken.{Start, no_feeds}
 use Rattle.frontier_sync.specs.Heads.{AreOpen}

@@ -2,7 +2,7 @@ use Rattle.std.proofs.Common.{rules, ◌≡◌, ◌≤◌, List, [], length, sub
 use Rattle.std.specs.Arc.{arc_value}
 use Rattle.lean_orders.specs.declared.desk.Reply.{Reply}
 use Rattle.clock_book.specs.Fitting.{most_orders}
-use Rattle.order_book.specs.Filling.{filling}
+use Rattle.order_book.specs.Filling.{trial}
 use Rattle.order_book.specs.Kept.{Kept}
 use Rattle.order_book.specs.Tries.{Tries}
 use Rattle.order_book.specs.declared.ledger.Ledger.{Ledger}
@@ -25,9 +25,9 @@ returns-clause-ok c =
       live = c.self.inside.ledger.live;
     } in
     let P : Kept → Type 0 =
-    λ old. Tries (filling old.costs old.hours old.bars) c.args.at [] first.orders.items [] first c.try_all.new.ledger c.reserve.new.self.items c.try_all.new.out.items in
+    λ old. Tries (trial old.costs old.hours old.bars) c.args.at [] first.orders.items [] first c.try_all.new.ledger c.reserve.new.self.items c.try_all.new.out.items in
     let Q : List Reply → Type 0 =
-    λ before. Tries (filling c.args.self.now.costs c.args.self.now.hours c.args.self.now.bars) c.args.at [] first.orders.items [] first c.try_all.new.ledger before c.try_all.new.out.items in
+    λ before. Tries (trial c.args.self.now.costs c.args.self.now.hours c.args.self.now.bars) c.args.at [] first.orders.items [] first c.try_all.new.ledger before c.try_all.new.out.items in
     let tries : Q c.args.out.now.items = subst Q c.reserve.ensures.items (subst P c.self.view_is c.try_all.ensures.tried) in
     serves_match c.args.self.now _ first c.try_all.new.ledger c.args.at c.args.out.now.items c.try_all.new.out.items c.say.new.out.items costs leverage hours c.forget.ensures.bars
     c.prune.ensures.account c.prune.ensures.orders c.prune.ensures.fills account_was orders_was fills_was few tries c.say.ensures.items

@@ -31,7 +31,7 @@ returns-clause-ok c =
     search rules in
     let told : c.say.new.out.items
     ≡ c.args.out.now.items
-    ++ said c.args.at (length c.args.self.now.orders + 1) c.args.request.now.symbol (what.Submitted Market c.args.request.now.quantity None)
+    ++ said c.args.at (length c.args.self.now.orders + 1) c.args.request.now.symbol (what.Submitted Market c.args.request.now.quantity None None)
     ∷ said c.args.at (length c.args.self.now.orders + 1) c.args.request.now.symbol (what.Filled c.fill_at_once-fill.result) ∷ Done ∷ [] =
     search rules in
     serves_trade c.args.self.now _ c.args.at c.args.request.now c.args.price.0 c.fill_at_once-fill.result c.args.out.now.items c.say.new.out.items costs leverage hours bars

@@ -17,9 +17,9 @@ index_mut-requires c =
 pub returns-clause-kept : goal.returns-clause-kept
 returns-clause-kept c = record {
   orders =
-      kept_fill c.args.self.now.portfolio c.apply.new.self c.args.self.now.orders.items c.args.place c.args.order.now c.requires.kept.orders c.requires.there c.requires.lives
+      kept_fill c.args.self.now.portfolio c.apply.new.self c.args.self.now.orders.items c.args.place c.args.order.now c.args.first.now c.requires.kept.orders c.requires.there c.requires.lives c.requires.id
       c.apply.ensures.held c.apply.ensures.count;
   live =
-      name_set 0 c.args.place c.args.self.now.live.items c.args.self.now.orders.items c.args.order.now (in_state Filled c.args.order.now) c.requires.there (λ dead. refl)
+      name_set 0 c.args.place c.args.self.now.live.items c.args.self.now.orders.items c.args.order.now (in_state Filled c.args.first.now) c.requires.there (λ dead. refl)
       c.requires.kept.live;
 }

@@ -1,9 +1,10 @@
 use Rattle.std.proofs.Common.{◌≡◌, rules, arith}
 use Rattle.std.proofs.lemmas.Result.{err_from_is_err_and}
+use Rattle.rule_lang.specs.declared.token.Context.TheVariants.{Brackets, Not, Minus}
 use Rattle.rule_lang.specs.Parts.{binary}
 use Rattle.rule_lang.specs.Grammar as spec
 use Rattle.rule_lang.specs.Nodes.{part_of}
-use Rattle.rule_lang.proofs.Chains.{goes-first, goes-on, goes-fails, goes-end, chain-fails, opened-brackets, opened-not, opened-minus}
+use Rattle.rule_lang.proofs.Chains.{goes-first, goes-on, goes-fails, goes-end, chain-fails, opened-within}
 use Rattle.rule_lang.proofs.grammar.Reader.+grammar.Goals as goal
 
 pub chain-returns-in_err-left : goal.chain-returns-in_err-left
@@ -24,31 +25,33 @@ chain-loop-op-init t c = record {
 
 pub chain-returns-in_err-right : goal.chain-returns-in_err-right
 chain-returns-in_err-right t c =
+    let goes = c.loop-op.invariant.goes in
     let p = err_from_is_err_and c.from_residual-in_err-right.result c.from_residual-in_err-right.ensures.1 in
     rw (p.1, p.2) record {
-      gives = goes-fails c.args.level (spec.operand (spec.opened c.args.levels) c.args.level) _ (part_of c.loop-op.left) c.loop-op.self.rest.now c.sign.new.self.rest.now (c.in-Some.op, c.in-Some.at) _ c.loop-op.invariant.goes c.in-Some.ensures.reads.gives c.in-Some.ensures.taken c.in_err-right.ensures.gives;
+      gives = goes-fails c.args.level (spec.operand (spec.opened c.args.levels) c.args.level) _ (part_of c.loop-op.left) c.loop-op.self.rest.now c.sign.new.self.rest.now (c.in-Some.op, c.in-Some.at) _ goes.turns goes.enough goes.same c.in-Some.ensures.reads.gives c.in-Some.ensures.taken c.in_err-right.ensures.gives;
       shorter = omega arith;
       adds = tt;
     }
 
 pub chain-loop-op-preserved : goal.chain-loop-op-preserved
 chain-loop-op-preserved t c =
+    let goes = c.loop-op.invariant.goes in
     let e : binary c.in-Some.op c.in-Some.at (part_of c.loop-op.left) (part_of c.in_ok-right.right) ≡ part_of c.in_ok-left-2.left = cc (c.in_ok-left-2.ensures.part) in
     record {
       shorter = omega arith;
       adds = c.in_ok-left-2.ensures.adds c.args.self.now.windows.items c.loop-op.self.windows.items c.operand-in-Some.new.self.windows.items c.loop-op.invariant.adds (rw c.in-Some.ensures.reads.adds at c.in_ok-right.ensures.adds);
-      goes = rw (← e) (goes-on c.args.level (spec.operand (spec.opened c.args.levels) c.args.level) _ (part_of c.loop-op.left) (part_of c.in_ok-right.right) c.loop-op.self.rest.now c.sign.new.self.rest.now c.operand-in-Some.new.self.rest.now (c.in-Some.op, c.in-Some.at) c.loop-op.invariant.goes c.in-Some.ensures.reads.gives c.in-Some.ensures.taken c.in_ok-right.ensures.gives c.in_ok-right.ensures.shorter);
+      goes = rw (← e) (goes-on c.args.level (spec.operand (spec.opened c.args.levels) c.args.level) _ (part_of c.loop-op.left) (part_of c.in_ok-right.right) c.loop-op.self.rest.now c.sign.new.self.rest.now c.operand-in-Some.new.self.rest.now (c.in-Some.op, c.in-Some.at) goes.turns goes.enough goes.same c.in-Some.ensures.reads.gives c.in-Some.ensures.taken c.in_ok-right.ensures.gives c.in_ok-right.ensures.shorter);
     }
 
 pub chain-returns : goal.chain-returns
-chain-returns t c = record {
-  gives = goes-end c.args.level (spec.operand (spec.opened c.args.levels) c.args.level) _ (part_of c.loop-op.left) c.loop-op.self.rest.now c.sign.new.self.rest.now c.loop-op.invariant.goes c.in_default.ensures.reads.gives;
+chain-returns t c = let goes = c.loop-op.invariant.goes in record {
+  gives = goes-end c.args.level (spec.operand (spec.opened c.args.levels) c.args.level) _ (part_of c.loop-op.left) c.loop-op.self.rest.now c.sign.new.self.rest.now goes.turns goes.enough goes.same c.in_default.ensures.reads.gives;
   shorter = omega arith;
   adds = rw c.in_default.ensures.reads.adds c.loop-op.invariant.adds;
 }
 
 pub comparison-returns-in_ok-right-in-Some : goal.comparison-returns-in_ok-right-in-Some
-unfolding spec.cmp spec.pair
+unfolding spec.cmp spec.pair spec.steps
 comparison-returns-in_ok-right-in-Some t c = record {
   gives = search rules;
   shorter = omega arith;
@@ -56,10 +59,11 @@ comparison-returns-in_ok-right-in-Some t c = record {
 }
 
 pub opened-returns-in-Brackets : goal.opened-returns-in-Brackets
-opened-returns-in-Brackets t c = rw (c.in-Brackets.is, opened-brackets c.args.levels c.args.at (omega arith)) c.chain.ensures
+unfolding spec.or
+opened-returns-in-Brackets t c = rw (c.in-Brackets.is, opened-within c.args.levels c.args.at Brackets (omega arith)) c.chain.ensures
 
 pub opened-returns-in-Not : goal.opened-returns-in-Not
-opened-returns-in-Not t c = rw (c.in-Not.is, opened-not c.args.levels c.args.at (omega arith)) c.not.ensures
+opened-returns-in-Not t c = rw (c.in-Not.is, opened-within c.args.levels c.args.at Not (omega arith)) c.not.ensures
 
 pub opened-returns-in-Minus : goal.opened-returns-in-Minus
-opened-returns-in-Minus t c = rw (c.in-Minus.is, opened-minus c.args.levels c.args.at (omega arith)) c.factor.ensures
+opened-returns-in-Minus t c = rw (c.in-Minus.is, opened-within c.args.levels c.args.at Minus (omega arith)) c.factor.ensures

@@ -1,0 +1,93 @@
+#!/usr/bin/env python3
+"""Shows that reading an algorithm file takes time in proportion to its bytes.
+
+It needs the kit's `rt`. A small program is built beside the crates of this repository, without their proofs. It makes
+files of 64 KiB to 1 MiB in memory: of different unknown keys, of one long array, of one long text, and of tables of
+securities. Of each it prints the least time of a reading in nanoseconds a byte, which must not rise with the size.
+"""
+import pathlib
+import shutil
+import subprocess
+import tempfile
+
+TOP = pathlib.Path(__file__).resolve().parent.parent
+PROGRAM = r"""
+#![tactic(auto)]
+
+use anyhow::Result;
+use rule_strategy::Plan;
+use std::alloc::Global;
+use std::fmt::Write;
+use std::time::Instant;
+
+const START: &str = "start = '20131007'\nend = '20131008'\ncash = '1000'\n";
+
+fn append(shape: u32, number: u32, file: &mut String) -> Result<()> {
+    match shape {
+        0 => writeln!(file, "key-{number} = {number}")?,
+        1 => write!(file, "{number}, ")?,
+        2 => write!(file, "{number} < ")?,
+        _ => writeln!(file, "[[securities]]\nsymbol = 'S{number}'\nresolution = 'daily'")?,
+    }
+    Ok(())
+}
+
+fn file_of(alloc: Global, shape: u32, size: usize) -> Result<String> {
+    let mut file = String::from_str(alloc, START)?;
+    match shape {
+        1 => file.push_str("rules = [")?,
+        2 => file.push_str("universe = '")?,
+        _ => {}
+    }
+    for number in 0..200_000u32 {
+        if file.len() >= size {
+            break;
+        }
+        append(shape, number, &mut file)?;
+    }
+    match shape {
+        1 => file.push_str("0]\n")?,
+        2 => file.push_str("'\n")?,
+        _ => {}
+    }
+    Ok(file)
+}
+
+fn main(rt: HostRuntime) -> Result<()> {
+    let shapes = ["unknown keys", "long array", "long text", "securities"];
+    for shape in 0..4u32 {
+        for size in [65_536usize, 262_144, 1_048_576] {
+            let file = file_of(rt.alloc(), shape, size)?;
+            let mut least = u128::MAX;
+            for _ in 0..5 {
+                let start = Instant::now(&rt)?;
+                let read = Plan::read(rt.alloc(), file.as_bytes());
+                least = least.min(start.elapsed(&rt)?.as_nanos());
+                if read.is_ok() {
+                    println!(rt; "a plan")?;
+                }
+            }
+            println!(rt; "{} {} bytes: {} ns a byte", shapes[shape as usize], file.len(), least / file.len() as u128)?;
+        }
+    }
+    Ok(())
+}
+"""
+
+
+def main():
+    with tempfile.TemporaryDirectory() as name:
+        folder = pathlib.Path(name)
+        crates = folder / "crates"
+        shutil.copytree(TOP / "crates", crates, ignore=shutil.ignore_patterns("out", "must-fail"))
+        program = crates / "plan_bench/src"
+        program.mkdir(parents=True)
+        (program / "main.rt").write_text(PROGRAM.lstrip())
+        lines = (TOP / "crates.txt").read_text() + "plan_bench: rule_strategy anyhow\n"
+        (folder / "crates.txt").write_text(lines)
+        (folder / "HANDLES").write_text((TOP / "HANDLES").read_text())
+        subprocess.run(["rt", "try"], cwd=crates / "plan_bench", check=True)
+
+
+if __name__ == "__main__":
+    main()

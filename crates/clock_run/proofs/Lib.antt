@@ -1,0 +1,9 @@
+pub mod EachLemmas
+pub mod IdleLemmas
+pub mod TurnLemmas
+pub mod TradeLemmas
+pub mod SettleLemmas
+pub mod BarLemmas
+pub mod WorldLemmas
+pub mod NumberLemmas
+pub mod OrderlyLemmas

@@ -1,0 +1,12 @@
+pub mod Lines
+pub mod Known
+pub mod States
+pub mod Histories
+pub mod Requests
+pub mod Moments
+pub mod Summary
+pub mod Reports
+pub mod Worlds
+pub mod Idle
+pub mod Orderly
+pub mod Worked

@@ -1,0 +1,5 @@
+//! What a backtest prints: definitions alone.
+#![tactic(auto)]
+
+pub mod laws;
+mod worked;

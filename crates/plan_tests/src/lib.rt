@@ -1,0 +1,14 @@
+//! Tests of algorithm files by the public calls alone: files and the plans or first faults that they are, and what a rule
+//! asks for.
+#![tactic(auto)]
+
+#[cfg(test)]
+mod asking;
+#[cfg(test)]
+mod cases;
+#[cfg(test)]
+mod faults;
+#[cfg(test)]
+mod files;
+#[cfg(test)]
+mod texts;

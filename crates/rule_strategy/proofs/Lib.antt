@@ -1,0 +1,7 @@
+pub mod Chains
+pub mod Days
+pub mod Holds
+pub mod Lengths
+pub mod OnLiterals
+pub mod PlanHolds
+pub mod TextLemmas

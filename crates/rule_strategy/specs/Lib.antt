@@ -1,0 +1,13 @@
+pub mod Keys
+pub mod Answers
+pub mod Values
+pub mod Tables
+pub mod Settings
+pub mod Securities
+pub mod Universe
+pub mod RuleTexts
+pub mod Rules
+pub mod PlanFile
+pub mod Validity
+pub mod Asked
+pub mod Worked
