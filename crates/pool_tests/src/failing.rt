@@ -1,7 +1,8 @@
 //! Feeds whose folder fails at a call: what is given before the failed call is a front of the whole list.
 
+use crate::filled::filled_text;
 use crate::folders::{Case, folder_of};
-use crate::given::given_text;
+use crate::rows::rows_text;
 use lean_io::MemFolder;
 use std::alloc::Global;
 use std::test::Fail;
@@ -31,12 +32,17 @@ fn case_of(alloc: Global, kind: &str) -> Result<Case, Fail> {
 
 fn whole_rows(alloc: Global, case: &Case, inner: MemFolder) -> Result<String, Fail> {
     let mut folder = inner;
-    given_text(alloc, case, &mut folder, false)
+    rows_text(alloc, case, &mut folder)
 }
 
-fn slow_text(alloc: Global, case: &Case, inner: MemFolder, fill: bool) -> Result<String, Fail> {
+fn slow_rows(alloc: Global, case: &Case, inner: MemFolder) -> Result<String, Fail> {
     let mut folder = SlowFolder { inner };
-    given_text(alloc, case, &mut folder, fill)
+    rows_text(alloc, case, &mut folder)
+}
+
+fn slow_filled(alloc: Global, case: &Case, inner: MemFolder) -> Result<String, Fail> {
+    let mut folder = SlowFolder { inner };
+    filled_text(alloc, case, &mut folder)
 }
 
 // What is read, one byte a read, and which call of which file fails. A minute row takes 19 reads, a row of the other files 25,
@@ -94,13 +100,13 @@ fn split(input: &str) -> Result<(&str, &str, u64), Fail> {
 fn rows(alloc: Global, input: &str) -> Result<String, Fail> {
     let (kind, file, call) = split(input)?;
     let case = case_of(alloc, kind)?;
-    slow_text(alloc, &case, failing(alloc, kind, file, call)?, false)
+    slow_rows(alloc, &case, failing(alloc, kind, file, call)?)
 }
 
 fn filled(alloc: Global, input: &str) -> Result<String, Fail> {
     let (kind, file, call) = split(input)?;
     let case = case_of(alloc, kind)?;
-    slow_text(alloc, &case, failing(alloc, kind, file, call)?, true)
+    slow_filled(alloc, &case, failing(alloc, kind, file, call)?)
 }
 
 #[test]
@@ -127,7 +133,7 @@ fn shows_fronts(
 ) -> Result<bool, Fail> {
     let rows = whole_rows(alloc, case, failing(alloc, kind, "none", 0)?)?;
     let whole = whole_rows(alloc, case, failing(alloc, kind, file, call)?)?;
-    let slow = slow_text(alloc, case, failing(alloc, kind, file, call)?, false)?;
+    let slow = slow_rows(alloc, case, failing(alloc, kind, file, call)?)?;
     Ok(is_front(rows.as_str(), whole.as_str()) && is_front(rows.as_str(), slow.as_str()))
 }
 

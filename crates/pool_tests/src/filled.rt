@@ -1,9 +1,9 @@
 //! Feeds with filled bars, by themselves and in a pool on one thread.
 ghost use Rattle.lean_fixed.specs.Ranges.{IsMoment, IsWindow};
 
-use crate::folders::files_of_case;
-use crate::given::{slow, whole};
+use crate::folders::{Case, files_of_case};
 use crate::said::items_text;
+use crate::serial::take_serial;
 use crate::taking::take_feed;
 use exchange_hours::Hours;
 use fill_forward::FilledFeed;
@@ -15,6 +15,7 @@ use std::alloc::Global;
 use std::sync::Arc;
 use std::test::Fail;
 use test_cases::cases::check;
+use test_cases::cut::SlowFolder;
 
 // All items of the filled feed of a key over the files of a folder.
 fn filled_of<F: Folder>(
@@ -69,17 +70,31 @@ fn filled(alloc: Global, input: &str) -> Result<String, Fail> {
     Ok(items_text(alloc, &items)?)
 }
 
-fn serial(alloc: Global, input: &str) -> Result<String, Fail> {
-    whole(alloc, input, true)
+/// What the filled feed of a case gives in a pool over a folder.
+pub(crate) fn filled_text<F: Folder>(
+    alloc: Global,
+    case: &Case,
+    folder: &mut F,
+) -> Result<String, Fail> {
+    let hours = case.hours.clone()?;
+    let items = take_serial(alloc, folder, case.window(), hours, case.key(true))?;
+    Ok(items_text(alloc, &items)?)
 }
 
-fn slow_serial(alloc: Global, input: &str) -> Result<String, Fail> {
-    slow(alloc, input, true)
+fn serial(alloc: Global, input: &str) -> Result<String, Fail> {
+    let (case, mut folder) = files_of_case(alloc, input)?;
+    filled_text(alloc, &case, &mut folder)
+}
+
+fn slow(alloc: Global, input: &str) -> Result<String, Fail> {
+    let (case, inner) = files_of_case(alloc, input)?;
+    let mut folder = SlowFolder { inner };
+    filled_text(alloc, &case, &mut folder)
 }
 
 #[test]
 fn fills_between_the_rows(rt: HostRuntime) -> Result<(), Fail> {
     check(rt.alloc(), FILLED, filled)?;
     check(rt.alloc(), FILLED, serial)?;
-    check(rt.alloc(), FILLED, slow_serial)
+    check(rt.alloc(), FILLED, slow)
 }

@@ -8,8 +8,6 @@ mod failing;
 mod filled;
 #[cfg(test)]
 mod folders;
-#[cfg(test)]
-mod given;
 mod mem_feed;
 mod mem_pool;
 #[cfg(test)]

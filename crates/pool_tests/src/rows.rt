@@ -3,7 +3,8 @@ ghost use Rattle.std.specs.Prelude.{◌≡◌, false};
 ghost use Rattle.lean_fixed.specs.Ranges.{IsMoment, IsWindow};
 ghost use Rattle.row_feed.specs.Feed.{has_ended};
 
-use crate::given::{slow, whole};
+use crate::folders::{Case, files_of_case};
+use crate::said::items_text;
 use exchange_hours::Hours;
 use lean_fixed::{NoMemory, Window};
 use lean_io::{Folder, Hand};
@@ -13,6 +14,7 @@ use std::alloc::Global;
 use std::sync::Arc;
 use std::test::Fail;
 use test_cases::cases::check;
+use test_cases::cut::SlowFolder;
 
 // All items of a feed of rows.
 fn take_rows<H: Hand>(alloc: Global, rows: &mut RowFeed<H>) -> Result<Vec<Item>, NoMemory>
@@ -32,8 +34,8 @@ fn take_rows<H: Hand>(alloc: Global, rows: &mut RowFeed<H>) -> Result<Vec<Item>,
     }
 }
 
-/// All items of the feed of rows of a key over the files of a folder.
-pub(crate) fn rows_of<F: Folder>(
+// The same of a key over the files of a folder.
+fn rows_of<F: Folder>(
     alloc: Global,
     folder: &mut F,
     key: FeedKey,
@@ -86,12 +88,26 @@ usual coarse 07 08 0, coarse.06:X 1,SPY,6.45,7,9;X 2,A,1,2,3; | coarse.07:X 3,B,
 usual coarse 07 07 0, coarse.06:X 1,spy,6.45,7,9;X 2,A,1,2,3;x; = 07.0000 A 10000 2 3, bad 15984:3 fields
 ";
 
+/// What the feed of a case gives over a folder.
+pub(crate) fn rows_text<F: Folder>(
+    alloc: Global,
+    case: &Case,
+    folder: &mut F,
+) -> Result<String, Fail> {
+    let hours = case.hours.clone()?;
+    let items = rows_of(alloc, folder, case.key(false), case.window(), hours)?;
+    Ok(items_text(alloc, &items)?)
+}
+
 fn rows(alloc: Global, input: &str) -> Result<String, Fail> {
-    whole(alloc, input, false)
+    let (case, mut folder) = files_of_case(alloc, input)?;
+    rows_text(alloc, &case, &mut folder)
 }
 
 fn slow_rows(alloc: Global, input: &str) -> Result<String, Fail> {
-    slow(alloc, input, false)
+    let (case, inner) = files_of_case(alloc, input)?;
+    let mut folder = SlowFolder { inner };
+    rows_text(alloc, &case, &mut folder)
 }
 
 #[test]
