@@ -273,12 +273,22 @@ pub fn feeds_grow()
         → feed_bars files hours window key t ≡ [] }
 {}
 
+/// The bars of a key up to a moment end past the start of its feed and in the window, have their numbers in their ranges, and
+/// are bars of the grid of its resolution.
+pub fn known_bars_are_sound()
+    ensures sound { (files : Files) (hours : Entries) (window : Window) (key : FeedKey) (t : ℕ)
+        → LieInDays hours → IsWindow window
+        → All (IsSound key.start.0 (last_moment window)) (feed_bars files hours window key t) }
+    ensures grid { (files : Files) (hours : Entries) (window : Window) (key : FeedKey)
+        (symbol : List ℕ) (resolution : Resolution) (t : ℕ) → key.kind ≡ Equity symbol resolution
+        → All (IsOnGrid hours resolution) (feed_bars files hours window key t) }
+{}
+
 /// Each bar of a security, read or filled, is a bar of the grid of its resolution. So it lies in a period of any length that
 /// holds whole bars, and starts no earlier than the end of any bar before it.
 pub fn bars_are_on_grid()
     ensures grid { (files : Files) (hours : Entries) (window : Window) (key : FeedKey)
         (symbol : List ℕ) (resolution : Resolution) (t : ℕ) (bar : Bar)
-        → LieInDays hours → IsWindow window → key.kind ≡ Equity symbol resolution
         → bar_at (filling_of hours window key resolution) (bars_of files hours window key symbol resolution) t
         ≡ Some bar → IsOnGrid hours resolution bar }
     ensures period { (hours : Entries) (resolution : Resolution) (period : ℕ) (bar : Bar)
@@ -289,7 +299,7 @@ pub fn bars_are_on_grid()
         → end_of earlier < end_of bar → end_of earlier ≤ start_of bar }
     ensures before { (files : Files) (hours : Entries) (window : Window) (key : FeedKey)
         (symbol : List ℕ) (resolution : Resolution) (before t : ℕ) (bar : Bar)
-        → LieInDays hours → IsWindow window → key.kind ≡ Equity symbol resolution → before < t
+        → LieInDays hours → key.kind ≡ Equity symbol resolution → before < t
         → bar_at (filling_of hours window key resolution) (bars_of files hours window key symbol resolution) t
         ≡ Some bar
         → EndBy (start_of bar) (feed_bars files hours window key before) }
