@@ -142,7 +142,7 @@ fn update(text: &str, at: Moment) -> Result<Command, Fail>
     Ok(Command::Update(at, id(text)?, price))
 }
 
-fn command(text: &str) -> Result<Command, Fail>
+pub fn command(text: &str) -> Result<Command, Fail>
     ensures { IfOk result IsFitting }
 {
     let at = moment(text)?;
@@ -162,7 +162,7 @@ fn command(text: &str) -> Result<Command, Fail>
     }
 }
 
-fn handle(book: &mut Book, command: &Command, out: &mut Vec<Reply>) -> Result<(), Fail>
+pub fn handle(book: &mut Book, command: &Command, out: &mut Vec<Reply>) -> Result<(), Fail>
     requires { IsFitting command.now }
 {
     if book.orders().len() >= 1_000_000 {
@@ -297,13 +297,18 @@ fn new_book(alloc: Global, cash: Money, costs: Costs) -> Result<Book, Fail>
     Ok(Book::new(alloc, cash, costs, 2, hours))
 }
 
-fn replies_of(alloc: Global, text: &str) -> Result<String, Fail> {
+// A book of 10,000,000 units of cash, a fee of 1 unit a share, and a slip of 2.
+pub fn one_a_share(alloc: Global) -> Result<Book, Fail> {
     let costs = Costs {
         per_share: Money(1),
         least: Money(0),
         slip: 2,
     };
-    replies_by(alloc, new_book(alloc, Money(10_000_000), costs)?, text)
+    new_book(alloc, Money(10_000_000), costs)
+}
+
+fn replies_of(alloc: Global, text: &str) -> Result<String, Fail> {
+    replies_by(alloc, one_a_share(alloc)?, text)
 }
 
 fn free_replies_of(alloc: Global, text: &str) -> Result<String, Fail> {

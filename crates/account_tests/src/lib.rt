@@ -14,4 +14,6 @@ mod lines;
 #[cfg(test)]
 mod power;
 #[cfg(test)]
+mod summaries;
+#[cfg(test)]
 mod sums;

@@ -100,14 +100,14 @@ all_four : (a b c d : Bool) → a ≡ true → b ≡ true → c ≡ true → d �
 all_four a b c d p q r s = rw (p, q, r, s) refl
 
 -- the bar of a row that a line can say
-bar_in_range : (row : Row) (end : ℕ) → IsRow row → end ≤ 121000000 → is_bar_in_range (bar_of row end) ≡ true
+pub bar_in_range : (row : Row) (end : ℕ) → IsRow row → end ≤ 121000000 → is_bar_in_range (bar_of row end) ≡ true
 unfolding is_bar_in_range
 bar_in_range row end good small =
     all_seven (is_moment row.start.0) (is_moment (pos end)) (is_price row.opening.0) (is_price row.high.0) (is_price row.low.0) (is_price row.closing.0) (is_volume row.volume.0)
     (within_tested _ _ _ (dated_within row.start.0 good.start)) (within_tested _ _ _ (moment_within end small))
     (within_tested _ _ _ good.opening) (within_tested _ _ _ good.high) (within_tested _ _ _ good.low) (within_tested _ _ _ good.closing) (within_tested _ _ _ good.volume)
 
-row_in_range : (row : CoarseRow) (end : ℕ) → IsCoarse row → end ≤ 121000000 → is_row_in_range (pos end) row ≡ true
+pub row_in_range : (row : CoarseRow) (end : ℕ) → IsCoarse row → end ≤ 121000000 → is_row_in_range (pos end) row ≡ true
 unfolding is_row_in_range
 row_in_range row end good small =
     all_four (is_moment (pos end)) _ (is_volume row.volume.0) _

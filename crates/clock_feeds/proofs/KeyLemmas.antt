@@ -2,6 +2,7 @@
 use Rattle.std.proofs.Common.{◌≡◌, ℕ, zero, suc, ◌+◌, ◌-◌, ◌<◌, ◌≤◌, ℤ, pos, negsuc, ◌≤ℤ◌, List, [], ◌∷◌, ◌++◌, refl, sym, ap, ap₂, ◌∙◌, subst, arith, inl, inr, map}
 use Rattle.std.specs.Prelude.{Option, Some, None, ◌&&◌, nat_le, find, if◌then◌else◌, option_to_list}
 use Rattle.std.specs.List.{list_all}
+use Rattle.std.proofs.lemmas.Bool.{cases_lt}
 use Rattle.std.proofs.lemmas.Int.{ints}
 use Rattle.lean_fixed.specs.Moments.{last_moment}
 use Rattle.lean_fixed.specs.Ranges.{IsWindow}
@@ -25,12 +26,13 @@ use Rattle.clock_feeds.specs.Feeds.{last_item, items_from, coarse_item, coarse_i
 use Rattle.clock_feeds.specs.Slices.{source}
 use Rattle.clock_feeds.specs.Stands.{EndBy}
 use Rattle.clock_feeds.specs.Known.{bars_by, coarse_blocked, feed_bars_of, feed_blocked_of}
-use Rattle.clock_feeds.specs.Lists.{StopsInFile, IsInFile, IsOfKind, bars_ending, is_by, stop_in, blocked_in}
-use Rattle.clock_feeds.proofs.SearchLemmas.{Each}
+use Rattle.clock_feeds.specs.Lists.{IsSound, StopsInFile, IsInFile, IsOfKind, bars_ending, is_by, stop_in, blocked_in}
+use Rattle.clock_feeds.proofs.SearchLemmas.{Each, none_some}
 use Rattle.clock_feeds.proofs.ListLemmas.{begins, items_past}
-use Rattle.clock_feeds.proofs.SliceLemmas.{bars_told, bar_early, none_listed, blocked_told}
+use Rattle.clock_feeds.proofs.SliceLemmas.{bars_told, bar_early, bar_late, none_listed, blocked_told}
+use Rattle.clock_feeds.proofs.RiseLemmas.{bar_sound}
 use Rattle.clock_feeds.proofs.CutLemmas.{sound_end}
-use Rattle.clock_feeds.proofs.FeedLemmas.{kept_are}
+use Rattle.clock_feeds.proofs.FeedLemmas.{last_small, kept_are}
 use Rattle.clock_feeds.proofs.FileLemmas.{bars_stop, rows_stop}
 use Rattle.clock_feeds.proofs.GrowLemmas as grown
 
@@ -140,3 +142,18 @@ module _ (files : Files) (hours : Entries) (window : Window) (key : FeedKey) whe
     pub blocked_of : (kind : FeedKind) → key.kind ≡ kind → (t : ℕ) → blocked_in (feed_of files hours window key kind) t ≡ feed_blocked_of files hours window key kind t
     blocked_of Coarse is t = coarse_blocked_told (coarse_of files hours window key) t
     blocked_of (Equity symbol resolution) is t = sym (blocked_told (filling_of hours window key resolution) (bars_of files hours window key symbol resolution) t (ends symbol resolution is))
+
+    bar_is_sound : (symbol : List ℕ) (resolution : Resolution) → key.kind ≡ Equity symbol resolution → (u : ℕ) (bar : Bar)
+        → bar_at (filling_of hours window key resolution) (bars_of files hours window key symbol resolution) u ≡ Some bar → IsSound key.start.0 (last_moment window) bar
+    bar_is_sound symbol resolution is u bar here =
+        let f = filling_of hours window key resolution in
+        let kept = bars_of files hours window key symbol resolution in
+        elim (cases_lt (last_moment window) u) [
+          | inl past ↦ absurd (none_some (sym (bar_late f kept u (ends symbol resolution is) past) ∙ here))
+          | inr within ↦ bar_sound key.start.0 f kept u bar (last_small window is_window) (kept_are files hours window key symbol resolution every is_window is).0 within here
+        ]
+
+    pub known_sound : (kind : FeedKind) → key.kind ≡ kind → (t : ℕ) → Each (IsSound key.start.0 (last_moment window)) (feed_bars_of files hours window key kind t)
+    known_sound Coarse is t = tt
+    known_sound (Equity symbol resolution) is t =
+        grown.each (source files hours window key symbol resolution) (IsSound key.start.0 (last_moment window)) (bar_is_sound symbol resolution is) t

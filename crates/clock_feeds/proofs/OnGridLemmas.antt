@@ -191,6 +191,11 @@ pub feed_on_grid : (files : Files) (hours : Entries) (window : Window) (key : Fe
 feed_on_grid files hours window key symbol resolution t bar is =
     bar_on_grid (filling_of hours window key resolution) (bars_of files hours window key symbol resolution) t bar (kept_are_on_grid files hours window key symbol resolution) is
 
+pub known_on_grid : (files : Files) (hours : Entries) (window : Window) (key : FeedKey) (symbol : List ℕ) (resolution : Resolution) (t : ℕ)
+    → Each (IsOnGrid hours resolution) (bars_by (source files hours window key symbol resolution) t)
+known_on_grid files hours window key symbol resolution t =
+    grown.each (source files hours window key symbol resolution) (IsOnGrid hours resolution) (feed_on_grid files hours window key symbol resolution) t
+
 -- ---- periods
 
 minute_room : (start q m period : ℕ) → q + m ≡ start → m < period → start + 1 ≤ q + period
@@ -278,4 +283,4 @@ behind_all files hours window key symbol resolution before t bar every low is =
     let s = source files hours window key symbol resolution in
     let e = bar_ends s.filling s.kept t bar is in
     all_apart hours resolution bar before (bars_by s before) every (feed_on_grid files hours window key symbol resolution t bar is) (omega (arith, e, low))
-    (grown.each s (IsOnGrid hours resolution) (feed_on_grid files hours window key symbol resolution) before) (grown.end s before)
+    (known_on_grid files hours window key symbol resolution before) (grown.end s before)

@@ -1,14 +1,16 @@
 -- Where a list that rises stands at a moment: what lies before it, what ends then, and whether it is blocked.
-use Rattle.std.proofs.Common.{◌≡◌, ℕ, ◌<◌, ◌≤◌, ℤ, pos, ◌<ℤ◌, ◌≤ℤ◌, int_lt, int_le, List, [], ◌∷◌, ◌++◌, Bool, true, false, refl, ap, ◌∙◌, arith, true≢false}
-use Rattle.std.specs.Prelude.{Option, Some, None, ◌==◌, ◌&&◌, nat_lt, nat_le, option_to_list}
+use Rattle.std.proofs.Common.{◌≡◌, ℕ, ◌<◌, ◌≤◌, ℤ, pos, negsuc, ◌<ℤ◌, ◌≤ℤ◌, int_lt, int_le, List, [], ◌∷◌, ◌++◌, Bool, true, false, refl, ap, ◌∙◌, arith, true≢false}
+use Rattle.std.specs.Prelude.{Option, Some, None, ◌==◌, ◌&&◌, nat_lt, nat_le, unsigned_abs, option_to_list}
 use Rattle.std.specs.List.{All, list_all, cons_option}
 use Rattle.std.proofs.lemmas.Bool.Decides.{nat_tests}
 use Rattle.std.proofs.lemmas.Bool.{and_parts, and_from}
 use Rattle.std.proofs.lemmas.Int.{ints}
 use Rattle.std.proofs.lemmas.List.Elements.{filter_map-append, recursion_from_All}
 use Rattle.std.proofs.lemmas.List.Folds.{list_all-append}
+use Rattle.lean_fixed.specs.declared.time.Moment.{Moment}
 use Rattle.lean_items.specs.declared.bad.Bad.{Bad}
 use Rattle.lean_items.specs.declared.bar.Bar.{Bar}
+use Rattle.lean_items.specs.declared.coarse_row.CoarseRow.{CoarseRow}
 use Rattle.lean_items.specs.declared.item.Item.{Item}
 use Rattle.lean_items.specs.declared.item.Item.TheVariants.{Bar as BarItem, Coarse as CoarseItem, Bad as BadItem, Faulted, End}
 use Rattle.lean_items.specs.Fits.{is_bar_in_range, is_row_in_range, fits, end_or, Rises as ItemsRise}
@@ -113,6 +115,18 @@ not_blocked t front rest bar later =
     let behind : list_all (is_by t) (BarItem bar ∷ rest) ≡ false = rw here refl in
     let whole : list_all (is_by t) (front ++ BarItem bar ∷ rest) ≡ false =
     list_all-append (is_by t) front (BarItem bar ∷ rest) ∙ no_and (list_all (is_by t) front) (list_all (is_by t) (BarItem bar ∷ rest)) behind in
+    rw whole refl
+
+past_then : (z : ℤ) (t : ℕ) → pos t <ℤ z → nat_le (unsigned_abs z) t ≡ false
+past_then (pos n) t later = (let past : t < n = omega (arith, ints) in grind (arith, nat_tests))
+past_then (negsuc n) t later = absurd (omega (arith, ints))
+
+-- nor while a coarse row is
+pub not_known : (t : ℕ) (front rest : List Item) (at : Moment) (row : CoarseRow) → pos t <ℤ at.0 → blocked_in (front ++ CoarseItem at row ∷ rest) t ≡ None
+not_known t front rest at row later =
+    let behind : list_all (is_by t) (CoarseItem at row ∷ rest) ≡ false = rw (past_then at.0 t later) refl in
+    let whole : list_all (is_by t) (front ++ CoarseItem at row ∷ rest) ≡ false =
+    list_all-append (is_by t) front (CoarseItem at row ∷ rest) ∙ no_and (list_all (is_by t) front) (list_all (is_by t) (CoarseItem at row ∷ rest)) behind in
     rw whole refl
 
 stop_behind : (front : List Item) (stop : Option Bad) → Each IsRow front → stop_in (front ++ last_item stop ∷ []) ≡ stop

@@ -1,8 +1,9 @@
 //! What is true of the kept rows, the bars and the lists of all feeds. Each law is the contract of a function that does
 //! nothing.
-ghost use Rattle.std.specs.Prelude.{◌≡◌, ℕ, ◌+◌, ◌<◌, ◌≤◌, ◌⊎◌, ◌^◌, true, false, ℤ, ◌≤ℤ◌, pos, List, [], ◌∷◌, ◌++◌, map, length, Option, Some, None, find, option_to_list};
+ghost use Rattle.std.specs.Prelude.{◌≡◌, ℕ, ◌+◌, ◌<◌, ◌≤◌, ◌⊎◌, ◌^◌, true, false, ℤ, ◌≤ℤ◌, ◌<ℤ◌, pos, List, [], ◌∷◌, ◌++◌, map, length, Option, Some, None, find, option_to_list};
 ghost use Rattle.std.specs.List.{All, list_all};
 ghost use Rattle.lean_fixed.specs.declared.resolution.Resolution.{Resolution};
+ghost use Rattle.lean_fixed.specs.declared.time.Moment.{Moment};
 ghost use Rattle.lean_fixed.specs.declared.time.Window.{Window};
 ghost use Rattle.lean_fixed.specs.Moments.{last_moment};
 ghost use Rattle.lean_fixed.specs.Ranges.{IsWindow};
@@ -13,7 +14,7 @@ ghost use Rattle.lean_items.specs.declared.coarse_row.CoarseRow.{CoarseRow};
 ghost use Rattle.lean_items.specs.declared.feed_key.FeedKey.{FeedKey};
 ghost use Rattle.lean_items.specs.declared.feed_key.FeedKind.TheVariants.{Coarse, Equity};
 ghost use Rattle.lean_items.specs.declared.item.Item.{Item};
-ghost use Rattle.lean_items.specs.declared.item.Item.TheVariants.{Bar as BarItem, Bad as BadItem, End};
+ghost use Rattle.lean_items.specs.declared.item.Item.TheVariants.{Bar as BarItem, Coarse as CoarseItem, Bad as BadItem, End};
 ghost use Rattle.lean_items.specs.Fits.{Rises as ItemsRise};
 ghost use Rattle.lean_items.specs.Given.{IsRow};
 ghost use Rattle.exchange_hours.specs.Entries.{Entries};
@@ -210,7 +211,7 @@ pub fn lists_tell_rows()
 {}
 
 /// Where a list that rises stands at a moment, some of its bars being past: the next one is all that may end then, and the
-/// list is blocked only once the last item alone is left.
+/// list is blocked only once the last item alone is left, be its rows bars or coarse ones.
 pub fn standing_lists()
     ensures past { (z : ℤ) (front rest : List Item) (bar : Bar) → pos 0 ≤ℤ z
         → ItemsRise z (front ++ BarItem bar ∷ rest)
@@ -225,6 +226,8 @@ pub fn standing_lists()
         → bars_ending t (front ++ last_item stop ∷ []) ≡ [] }
     ensures open { (t : ℕ) (front rest : List Item) (bar : Bar) → t < end_of bar
         → blocked_in (front ++ BarItem bar ∷ rest) t ≡ None }
+    ensures waits { (t : ℕ) (front rest : List Item) (at : Moment) (row : CoarseRow) → pos t <ℤ at.0
+        → blocked_in (front ++ CoarseItem at row ∷ rest) t ≡ None }
     ensures closed { (t : ℕ) (front : List Item) (stop : Option Bad) → All IsRow front
         → list_all (is_by t) front ≡ true → blocked_in (front ++ last_item stop ∷ []) t ≡ stop }
 {}
@@ -270,12 +273,22 @@ pub fn feeds_grow()
         → feed_bars files hours window key t ≡ [] }
 {}
 
+/// The bars of a key up to a moment end past the start of its feed and in the window, have their numbers in their ranges, and
+/// are bars of the grid of its resolution.
+pub fn known_bars_are_sound()
+    ensures sound { (files : Files) (hours : Entries) (window : Window) (key : FeedKey) (t : ℕ)
+        → LieInDays hours → IsWindow window
+        → All (IsSound key.start.0 (last_moment window)) (feed_bars files hours window key t) }
+    ensures grid { (files : Files) (hours : Entries) (window : Window) (key : FeedKey)
+        (symbol : List ℕ) (resolution : Resolution) (t : ℕ) → key.kind ≡ Equity symbol resolution
+        → All (IsOnGrid hours resolution) (feed_bars files hours window key t) }
+{}
+
 /// Each bar of a security, read or filled, is a bar of the grid of its resolution. So it lies in a period of any length that
 /// holds whole bars, and starts no earlier than the end of any bar before it.
 pub fn bars_are_on_grid()
     ensures grid { (files : Files) (hours : Entries) (window : Window) (key : FeedKey)
         (symbol : List ℕ) (resolution : Resolution) (t : ℕ) (bar : Bar)
-        → LieInDays hours → IsWindow window → key.kind ≡ Equity symbol resolution
         → bar_at (filling_of hours window key resolution) (bars_of files hours window key symbol resolution) t
         ≡ Some bar → IsOnGrid hours resolution bar }
     ensures period { (hours : Entries) (resolution : Resolution) (period : ℕ) (bar : Bar)
@@ -286,7 +299,7 @@ pub fn bars_are_on_grid()
         → end_of earlier < end_of bar → end_of earlier ≤ start_of bar }
     ensures before { (files : Files) (hours : Entries) (window : Window) (key : FeedKey)
         (symbol : List ℕ) (resolution : Resolution) (before t : ℕ) (bar : Bar)
-        → LieInDays hours → IsWindow window → key.kind ≡ Equity symbol resolution → before < t
+        → LieInDays hours → key.kind ≡ Equity symbol resolution → before < t
         → bar_at (filling_of hours window key resolution) (bars_of files hours window key symbol resolution) t
         ≡ Some bar
         → EndBy (start_of bar) (feed_bars files hours window key before) }

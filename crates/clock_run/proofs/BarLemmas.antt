@@ -37,7 +37,7 @@ closes-push symbol period bars bar =
     ap (map (λ b. b.closing)) all
     ∙ map-append (λ b. b.closing) (flat_map (given_last period) (fronts bars)) (given_with period (bars ++ bar ∷ []) (Some bar))
 
-ends-now : (t : ℕ) (bar : Bar) → bar.end.0 ≡ pos t → ends_at t bar ≡ true
+pub ends-now : (t : ℕ) (bar : Bar) → bar.end.0 ≡ pos t → ends_at t bar ≡ true
 ends-now t bar end = ap (λ z. unsigned_abs z == t) end ∙ (let e : (t == t) ≡ true = grind (arith, nat_tests) in e)
 
 fresh-with : (period : Option ℕ) (symbol : List ℕ) (bars : List Bar) (bar : Bar) (t : ℕ) → bar.end.0 ≡ pos t

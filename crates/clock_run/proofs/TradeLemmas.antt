@@ -16,7 +16,8 @@ use Rattle.lean_orders.specs.declared.order.OrderState.TheVariants as state
 use Rattle.lean_orders.specs.declared.desk.Command.{Command}
 use Rattle.lean_orders.specs.declared.desk.Command.TheVariants.{Mark, Match, Submit, Update, Cancel, Account}
 use Rattle.clock_book.specs.Books.{Book, is_live, order_of, price_of}
-use Rattle.clock_book.specs.Submits.{has_price, is_price, submit_cause}
+use Rattle.lean_fixed.specs.Ranges.{is_price}
+use Rattle.clock_book.specs.Submits.{has_price, submit_cause}
 use Rattle.clock_book.specs.Handled.{Handled, handled, after, accepted_submit, priced_submit, judged_submit, market_submit, resting_submit, update_found, cancel_found, refused, done, said, with_orders, replaced, at_price}
 use Rattle.clock_book.specs.Matches.{in_state}
 

@@ -1,6 +1,6 @@
 //! The definitions, computed on small moments and on two whole reports. Each value is the contract of a function that does
 //! nothing.
-ghost use Rattle.std.specs.Prelude.{◌≡◌, ◌+◌, pos, true, false, [], ◌∷◌, ◌++◌, replicate, codes, Some, None};
+ghost use Rattle.std.specs.Prelude.{◌≡◌, ◌+◌, pos, neg_ℤ, true, false, [], ◌∷◌, ◌++◌, replicate, codes, Some, None};
 ghost use Rattle.lean_fixed.specs.Moments.{midnight};
 ghost use Rattle.lean_fixed.specs.declared.resolution.Resolution.TheVariants.{Minute};
 ghost use Rattle.lean_items.specs.declared.feed_key.FeedKind.TheVariants.{Coarse, Equity};
@@ -17,7 +17,7 @@ ghost use Rattle.clock_run.specs.Lines.{added, removed, closed, malformed, too_m
 ghost use Rattle.clock_run.specs.States.{actives, joining};
 ghost use Rattle.clock_run.specs.Histories.{fresh_bar};
 ghost use Rattle.clock_run.specs.Moments.{selection, removals, moment_of};
-ghost use Rattle.clock_run.specs.Summary.{drawdown};
+ghost use Rattle.clock_run.specs.Summary.{drawdown, held_symbols};
 ghost use Rattle.clock_run.specs.Reports.{backtest, report_bytes};
 ghost use Rattle.clock_run.specs.Worked.{monday, minute, minutes_of, top, plan_of, setup_of, whole, where_name, order_of, minute_bar, flat, known_by, of_symbol, world_with, world_of_two, bad_line, known_bad, three, state_of, no_orders, live_order, bought, event, two_orders, universe_plan};
 
@@ -181,4 +181,14 @@ pub fn days_of_a_universe()
         ++ codes "cash 1010.0000\n"
         ++ codes "equity 1010.0000\n"
         ++ codes "drawdown 0.0000\n" }
+{}
+
+/// Of three symbols that were traded two are held, and stand in the order of their bytes, each once.
+pub fn holdings()
+    ensures held { held_symbols (record (no_orders 10) {
+      fills = bought (codes "SPY") ∷ bought (codes "AAPL") ∷ bought (codes "SPY") ∷ [];
+    }) ≡ codes "AAPL" ∷ codes "SPY" ∷ [] }
+    ensures flat { held_symbols (record (no_orders 10) {
+      fills = bought (codes "SPY") ∷ record (bought (codes "SPY")) { quantity = record { 0 = neg_ℤ (pos 10) } } ∷ [];
+    }) ≡ [] }
 {}

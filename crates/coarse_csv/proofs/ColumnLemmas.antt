@@ -38,27 +38,21 @@ fields-divided text at some =
     let within : at < length text = grind (arith, nat_tests) in
     rw is at (divided text (rw is within))
 
--- there is a first field
-pub record Begins (all : List (List ℕ)) : Type 0 where
-  pub field : List ℕ
-  pub more : List (List ℕ)
-  pub is : all ≡ field ∷ more
-
-pub fields-begin : (text : List ℕ) → Begins (fields text)
-fields-begin [] = record { field = []; more = []; is = refl }
-fields-begin (b ∷ text) = begins b (fields text) (b == 44) (fields-begin text)
-  where
-    begins : (b : ℕ) (rest : List (List ℕ)) (comma : Bool) → Begins rest → Begins (if comma then [] ∷ rest else begin_first b rest)
-    begins b rest true w = record { field = []; more = rest; is = refl }
-    begins b rest false w = record { field = b ∷ w.field; more = w.more; is = ap (begin_first b) w.is }
-
 abbrev five : List ℕ → List ℕ → List ℕ → List ℕ → Five
 five symbol close volume dollars = record { symbol = symbol; close = close; volume = volume; dollars = dollars }
 
-last_of : (i s c v d : List ℕ) (rest : List (List ℕ)) → Begins rest → d ≡ first_field rest → Some (five s c v d) ≡ columns_in (i ∷ s ∷ c ∷ v ∷ rest)
-last_of i s c v d rest w e = rw w.is (ap (λ x. Some (five s c v x)) (rw w.is at e))
+last_of : (i s c v d field : List ℕ) (more rest : List (List ℕ)) → rest ≡ field ∷ more → d ≡ first_field rest → Some (five s c v d) ≡ columns_in (i ∷ s ∷ c ∷ v ∷ rest)
+last_of i s c v d field more rest is e = rw is (ap (λ x. Some (five s c v x)) (rw is at e))
+
+-- there is a first field, before a comma or alone
+last_in : (i s c v d text : List ℕ) → d ≡ first_field (fields text) → Some (five s c v d) ≡ columns_in (i ∷ s ∷ c ∷ v ∷ fields text)
+last_in i s c v d text e =
+    elim (position is_comma text) as (λ o. position is_comma text ≡ o → Some (five s c v d) ≡ columns_in (i ∷ s ∷ c ∷ v ∷ fields text)) [
+      | None ↦ λ none. last_of i s c v d text [] (fields text) (fields-alone text none) e
+      | Some at ↦ λ some. last_of i s c v d (take at text) (fields (drop (at + 1) text)) (fields text) (fields-divided text at some) e
+    ] refl
 
 pub columns-five : (i s c v d text behind1 behind2 behind3 behind4 : List ℕ) → fields text ≡ i ∷ fields behind1 → fields behind1 ≡ s ∷ fields behind2 → fields behind2 ≡ c ∷ fields behind3 → fields behind3 ≡ v ∷ fields behind4 → d ≡ first_field (fields behind4) → Some (five s c v d) ≡ columns_in (fields text)
 columns-five i s c v d text b1 b2 b3 b4 e1 e2 e3 e4 e =
-    last_of i s c v d (fields b4) (fields-begin b4) e
+    last_in i s c v d b4 e
     ∙ sym (ap columns_in (e1 ∙ ap (λ x. i ∷ x) (e2 ∙ ap (λ x. s ∷ x) (e3 ∙ ap (λ x. c ∷ x) e4))))

@@ -1,11 +1,12 @@
 -- Lists of numbers, each of which stands in them once.
-use Rattle.std.proofs.Common.{ℤ, Bool, true, false, cond, not, ◌&&◌, ◌||◌, ◌≡◌, List, [], ◌∷◌, ◌++◌, refl, sym, ap, ◌∙◌, ◌⊎◌, inl, inr}
+use Rattle.std.proofs.Common.{ℤ, Bool, true, false, cond, not, ◌&&◌, ◌||◌, ◌≡◌, List, [], ◌∷◌, ◌++◌, refl, ap, ◌∙◌, ◌⊎◌, inl, inr}
 use Rattle.std.specs.List.{filter, list_any}
 use Rattle.std.specs.Ordering.{int_eq}
-use Rattle.std.proofs.lemmas.Bool.{cases_Bool, and_right, true≢false, false≢true}
+use Rattle.std.proofs.lemmas.Bool.{cases_Bool, true≢false}
 use Rattle.std.proofs.lemmas.Bool.Decides.{Decides-int_eq}
 use Rattle.std.proofs.lemmas.Cmp.{int_eq_equiv}
 use Rattle.std.proofs.lemmas.List.Elements.{filter-append}
+use Rattle.std.proofs.lemmas.Map.Views.{any-filter_same}
 use Rattle.consolidators.specs.Buckets.{distinct}
 
 abbrev pub has : ℤ → List ℤ → Bool
@@ -24,30 +25,9 @@ filter-both c d (x ∷ xs) =
     ≡ filter d (cond b (x ∷ filter c xs) (filter c xs)))
     [ true ↦ ap (λ rest. cond (d x) (x ∷ rest) rest) (filter-both c d xs) | false ↦ filter-both c d xs ]
 
-has-cond : (j k : ℤ) (b : Bool) (rest : List ℤ) → has j (cond b (k ∷ rest) rest) ≡ ((b && int_eq k j) || has j rest)
-has-cond j k true rest = refl
-has-cond j k false rest = refl
-
-hit : (a e m n : Bool) → e ≡ true → m ≡ (a && n) → ((a && e) || m) ≡ (a && (e || n))
-hit true true m n t i = refl
-hit true false m n t i = absurd (false≢true t)
-hit false e m n t i = i
-
-miss : (a b e m n : Bool) → e ≡ false → m ≡ (b && n) → ((a && e) || m) ≡ (b && (e || n))
-miss a b true m n f i = absurd (true≢false f)
-miss true b false m n f i = i
-miss false b false m n f i = i
-
 -- a number stands in a filtered list where it passes and stood there
 pub has-filter : (j : ℤ) (q : ℤ → Bool) (ks : List ℤ) → has j (filter q ks) ≡ (q j && has j ks)
-has-filter j q [] = sym (and_right (q j) false refl)
-has-filter j q (k ∷ ks) =
-    has-cond j k (q k) (filter q ks)
-    ∙ (elim (cases_int_eq k j) [
-      | inl same ↦ ap (λ a. (a && int_eq k j) || has j (filter q ks)) (ap q same.0)
-          ∙ hit (q j) (int_eq k j) (has j (filter q ks)) (has j ks) same.1 (has-filter j q ks)
-      | inr other ↦ miss (q k) (q j) (int_eq k j) (has j (filter q ks)) (has j ks) other (has-filter j q ks)
-    ])
+has-filter j q ks = any-filter_same (λ k. int_eq k j) q (q j) (λ k same. ap q ((Decides-int_eq k j).0 same)) ks
 
 once : (e d m n : Bool) → d ≡ e → m ≡ n → (e || (not d && m)) ≡ (e || n)
 once true d m n s i = refl

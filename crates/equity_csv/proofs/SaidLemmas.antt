@@ -1,12 +1,12 @@
 -- What stands in the fields of a line that says a row, and so where the row's numbers lie.
-use Rattle.std.proofs.Common.{◌≡◌, ℕ, ◌+◌, ◌*◌, ◌/◌, ◌%◌, ◌≤◌, ◌<◌, ◌==◌, nat_le, nat_lt, Bool, true, false, ◌&&◌, if◌then◌else◌, pos, ◌≤ℤ◌, List, [], ◌∷◌, Option, Some, None, Ok, Err, option_map, unsigned_abs, refl, sym, ap, ◌∙◌, subst, take, drop, arith}
+use Rattle.std.proofs.Common.{◌≡◌, ℕ, ◌+◌, ◌*◌, ◌/◌, ◌%◌, ◌≤◌, ◌<◌, ◌==◌, nat_le, nat_lt, Bool, true, false, ◌&&◌, if◌then◌else◌, pos, List, [], ◌∷◌, Option, Some, None, Ok, Err, option_map, unsigned_abs, refl, sym, ap, ◌∙◌, subst, take, drop, arith}
 use Rattle.std.proofs.lemmas.Bool.Decides.{nat_tests}
 use Rattle.std.proofs.lemmas.Int.{ints}
 use Rattle.lean_fixed.specs.Digits.{is_digit, value_of}
 use Rattle.lean_fixed.specs.Calendar.{last_day, day_of_digits}
 use Rattle.lean_fixed.specs.Moments.{minutes_per_day, midnight}
 use Rattle.lean_fixed.specs.Fields.{plain_number}
-use Rattle.lean_fixed.specs.Ranges.{most_price, most_volume, IsPrice, IsVolume}
+use Rattle.lean_fixed.specs.Ranges.{most_price, most_volume, IsDatedMoment}
 use Rattle.lean_fixed.specs.declared.resolution.Resolution.{Resolution}
 use Rattle.lean_fixed.specs.declared.resolution.Resolution.TheVariants.{Daily}
 use Rattle.lean_items.specs.declared.reason.Reason.TheVariants.{Range}
@@ -84,15 +84,7 @@ pub record Said (time : List ℕ → Option ℕ) (row : Row) : Type 0 where
   pub start : ℕ
   pub timed : time at ≡ Some start
   pub starts : pos start ≡ row.start.0
-  pub opening : IsPrice row.opening.0
-  pub high : IsPrice row.high.0
-  pub low : IsPrice row.low.0
-  pub closing : IsPrice row.closing.0
-  pub low_opening : row.low.0 ≤ℤ row.opening.0
-  pub opening_high : row.opening.0 ≤ℤ row.high.0
-  pub low_closing : row.low.0 ≤ℤ row.closing.0
-  pub closing_high : row.closing.0 ≤ℤ row.high.0
-  pub volume : IsVolume row.volume.0
+  pub valid : IsDatedMoment row.start.0 → IsRow row
 
 said_values : (time : List ℕ → Option ℕ) (at o h l c v : List ℕ) (row : Row) → Values (time at) (price_in o) (price_in h) (price_in l) (price_in c) (volume_in v) row → Said time row
 said_values time at o h l c v row w =
@@ -110,15 +102,18 @@ said_values time at o h l c v row w =
       start = w.start;
       timed = w.start_is;
       starts = refl;
-      opening = (omega (arith, ints, p_o.0), omega (arith, ints, p_o.1));
-      high = (omega (arith, ints, p_h.0), omega (arith, ints, p_h.1));
-      low = (omega (arith, ints, p_l.0), omega (arith, ints, p_l.1));
-      closing = (omega (arith, ints, p_c.0), omega (arith, ints, p_c.1));
-      low_opening = omega (arith, ints, l_o);
-      opening_high = omega (arith, ints, o_h);
-      low_closing = omega (arith, ints, l_c);
-      closing_high = omega (arith, ints, c_h);
-      volume = (omega (arith, ints), omega (arith, ints, p_v));
+      valid = λ dated. record {
+        start = dated;
+        opening = (omega (arith, ints, p_o.0), omega (arith, ints, p_o.1));
+        high = (omega (arith, ints, p_h.0), omega (arith, ints, p_h.1));
+        low = (omega (arith, ints, p_l.0), omega (arith, ints, p_l.1));
+        closing = (omega (arith, ints, p_c.0), omega (arith, ints, p_c.1));
+        low_opening = omega (arith, ints, l_o);
+        opening_high = omega (arith, ints, o_h);
+        low_closing = omega (arith, ints, l_c);
+        closing_high = omega (arith, ints, c_h);
+        volume = (omega (arith, ints), omega (arith, ints, p_v));
+      };
     } in
     subst (λ (r : Row). Said time r) w.is made
 
@@ -133,18 +128,7 @@ said time (t ∷ o ∷ h ∷ l ∷ c ∷ v ∷ more) row e =
     said_values time t o h l c v row (values (time t) (price_in o) (price_in h) (price_in l) (price_in c) (volume_in v) row e)
 
 pub row-valid : (time : List ℕ → Option ℕ) (row : Row) (s : Said time row) → s.start < midnight (last_day + 1) → IsRow row
-row-valid time row s below = record {
-  start = (omega (arith, ints, s.starts), omega (arith, ints, s.starts, below));
-  opening = s.opening;
-  high = s.high;
-  low = s.low;
-  closing = s.closing;
-  low_opening = s.low_opening;
-  opening_high = s.opening_high;
-  low_closing = s.low_closing;
-  closing_high = s.closing_high;
-  volume = s.volume;
-}
+row-valid time row s below = s.valid (omega (arith, ints, s.starts), omega (arith, ints, s.starts, below))
 
 -- a minute row starts within its day
 minute-some : (day : ℕ) (found : Option ℕ) (s : ℕ) → option_map (λ minute. midnight day + minute) (option_map (λ ms. ms / 60000) (kept_if (λ ms. nat_lt ms (minutes_per_day * 60000) && (ms % 60000 == 0)) found)) ≡ Some s → s / 1440 ≡ day

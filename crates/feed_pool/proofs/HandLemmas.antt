@@ -1,5 +1,5 @@
 -- How many feeds are there, after one was added, removed or let go.
-use Rattle.std.proofs.Common.{◌≡◌, ℕ, zero, suc, ◌+◌, ◌-◌, ◌<◌, List, [], ◌∷◌, ◌++◌, length, get_or, set, Option, Some, None, refl, ap, ◌∙◌, arith}
+use Rattle.std.proofs.Common.{◌≡◌, ℕ, zero, suc, ◌+◌, ◌-◌, ◌<◌, List, [], ◌∷◌, ◌++◌, length, get_or, set, Option, None, refl, ap, ◌∙◌, arith}
 use Rattle.feed_pool.specs.Running.{one, held}
 
 module _ {G : Type 0} where

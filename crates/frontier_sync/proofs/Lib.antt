@@ -7,3 +7,4 @@ pub mod RisingLemmas
 pub mod ListLemmas
 pub mod StandLemmas
 pub mod FirstLemmas
+pub mod SeenLemmas

@@ -5,6 +5,8 @@ use Rattle.std.proofs.lemmas.Bool.Decides.{nat_tests}
 use Rattle.lean_items.specs.declared.feed_key.FeedKey.{FeedKey}
 use Rattle.lean_items.specs.declared.item.Item.{Item}
 use Rattle.lean_items.specs.Taken.{Start, Feeds, Taken, more}
+use Rattle.std.specs.Borrow.{GName}
+use Rattle.frontier_sync.specs.Stays.{Stays}
 use Rattle.frontier_sync.specs.Slices.{taken_one, TakesOfOne, taken_all, MovesOn}
 
 abbrev with_items : FeedKey → List Item → Taken
@@ -66,3 +68,16 @@ pub moves-more : (old now new : Start → Feeds → Type 0) (taken : ℕ → Lis
     → MovesOn old now taken → TakesOfOne now new feed items → MovesOn old new (with_taken taken feed items)
 moves-more old now new taken feed items none moves takes before feeds h =
     subst (λ f. new before f) (all-one feeds taken feed items none) (takes before (taken_all feeds taken) (moves before feeds h))
+
+-- one call after another
+module _ {P : Type 0} (files : P → Option (List ℕ → Option (List ℕ))) (lists : P → Option (FeedKey → List Item)) (faults : P → ℕ) (place : P → GName) where
+  pub stays-none : (pool : P) → Stays files lists faults place pool pool
+  stays-none pool = record { told = refl; keyed = refl; grows = omega arith; placed = refl }
+
+  pub stays-more : (old now new : P) → Stays files lists faults place old now → Stays files lists faults place now new → Stays files lists faults place old new
+  stays-more old now new first then = record {
+    told = then.told ∙ first.told;
+    keyed = then.keyed ∙ first.keyed;
+    grows = omega (arith, first.grows, then.grows);
+    placed = then.placed ∙ first.placed;
+  }

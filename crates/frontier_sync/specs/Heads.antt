@@ -1,11 +1,12 @@
 -- The heads of feeds: of each feed the item that was taken of it last, and was not passed on yet.
-use Rattle.std.specs.Prelude.{◌≡◌, ℕ, ◌<◌, ◌==◌, nat_lt, ℤ, int_lt, if◌then◌else◌, ◌<ℤ◌, ◌≤ℤ◌, Bool, true, false, not, List, length, [], ◌∷◌, ◌++◌, Option, Some, None}
+use Rattle.std.specs.Prelude.{◌≡◌, ℕ, ◌<◌, ◌==◌, nat_lt, ℤ, int_lt, if◌then◌else◌, ◌<ℤ◌, ◌≤ℤ◌, Bool, true, false, not, ◌&&◌, List, length, [], ◌∷◌, ◌++◌, Option, Some, None}
 use Rattle.std.specs.List.{All, Any, filter}
 use Rattle.lean_fixed.specs.declared.time.Moment.{Moment}
 use Rattle.lean_items.specs.declared.arrival.Arrival.{Arrival}
 use Rattle.lean_items.specs.declared.feed_no.FeedNo.{FeedNo}
 use Rattle.lean_items.specs.declared.item.Item.{Item}
 use Rattle.lean_items.specs.declared.item.Item.TheVariants.{Bar, Coarse, Bad, Faulted, End}
+use Rattle.lean_items.specs.Fits.{fits, is_bar_in_range, is_row_in_range}
 use Rattle.lean_items.specs.Given.{IsRow, end_of}
 
 -- a feed gave an item
@@ -65,10 +66,16 @@ earlier (Some first) (Some second) = Some (if int_lt second.0 first.0 then secon
 abbrev pub AreOpen : (ℕ → Bool) → List Arrival → Type 0
 AreOpen is_open heads = All (λ a. IsRow a.item → is_open a.feed.0 ≡ true) heads
 
--- a last item, or a row that ends past the start of its feed
-abbrev pub ends_past : ℤ → Item → Bool
-ends_past start (Bar bar) = int_lt start bar.end.0
-ends_past start (Coarse at row) = int_lt start at.0
-ends_past start (Bad bad) = true
-ends_past start Faulted = true
-ends_past start End = true
+-- an item that may be the first head of a feed: a last item, or a row that ends past the feed's start and whose numbers are in
+-- their ranges
+abbrev pub fits_first : ℤ → Item → Bool
+fits_first start (Bar bar) = int_lt start bar.end.0 && is_bar_in_range bar
+fits_first start (Coarse at row) = int_lt start at.0 && is_row_in_range at.0 row
+fits_first start (Bad bad) = true
+fits_first start Faulted = true
+fits_first start End = true
+
+-- the same, or an item that may come behind one that ends at a moment
+abbrev pub fits_by : Bool → ℤ → Item → Bool
+fits_by true start item = fits_first start item
+fits_by false after item = fits after item

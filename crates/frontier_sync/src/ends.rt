@@ -20,7 +20,8 @@ pub(crate) fn first_stop(heads: &[Arrival]) -> Option<Arrival>
 }
 
 // Whether an item is a malformed line or a failed read.
-fn stops(item: &Item) -> bool
+#[inline(always)]
+pub(crate) fn stops(item: &Item) -> bool
     ensures { result ≡ stops item.now }
 {
     match item {
@@ -43,7 +44,8 @@ pub(crate) fn least_end(heads: &[Arrival]) -> Option<Moment>
     least
 }
 
-fn end_of(item: &Item) -> Option<Moment>
+#[inline(always)]
+pub(crate) fn end_of(item: &Item) -> Option<Moment>
     ensures { option_map (λ t. t.0) result ≡ end_of item.now }
 {
     match item {
@@ -56,7 +58,8 @@ fn end_of(item: &Item) -> Option<Moment>
 }
 
 // The earlier of two moments, if there are any.
-fn earlier(first: Option<Moment>, second: Option<Moment>) -> Option<Moment>
+#[inline(always)]
+pub(crate) fn earlier(first: Option<Moment>, second: Option<Moment>) -> Option<Moment>
     ensures { result ≡ earlier first second }
 {
     match first {

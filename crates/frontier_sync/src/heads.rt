@@ -3,10 +3,12 @@ ghost use Rattle.std.specs.List.{find};
 ghost use Rattle.lean_items.specs.declared.item.Item.{Item};
 ghost use Rattle.frontier_sync.specs.Heads.{arrival, put, without, stops, IsFrontier, AreOpen, AreRising};
 ghost use Rattle.frontier_sync.specs.Slices.{IsSliced, slice_of, TakesOfHeads, MovesOn};
+ghost use Rattle.frontier_sync.specs.Stays.{Stays};
 
 use crate::ends::{first_stop, least_end};
 use crate::places::{forget, put};
 use crate::refill::refill_all;
+use crate::seen::Seen;
 use lean_fixed::{Moment, NoMemory};
 use lean_items::{Arrival, FeedNo, Item, Pool};
 use std::alloc::Global;
@@ -17,6 +19,8 @@ use std::marker::Model;
 #[derive(Drop)]
 pub struct Heads {
     heads: Vec<Arrival>,
+    // What `slice` saw of the heads that follow, while it went through them: so the next two calls need not.
+    seen: Seen,
 }
 
 impl Model for Heads {
@@ -28,8 +32,9 @@ impl Model for Heads {
     ghost view = { λ heads. heads.heads.items };
 
     ghost use Rattle.frontier_sync.specs.Heads.{AreRising};
+    ghost use Rattle.frontier_sync.specs.Seen.{IsSeen};
 
-    ghost invariant = { λ heads. AreRising heads.heads.items };
+    ghost invariant = { λ heads. AreRising heads.heads.items × IsSeen heads.heads.items heads.seen };
 }
 
 impl Heads {
@@ -39,6 +44,7 @@ impl Heads {
     {
         Heads {
             heads: Vec::new(alloc),
+            seen: Seen::Nothing,
         }
     }
 
@@ -47,6 +53,7 @@ impl Heads {
         ensures ok { OnOk result (self.new ≡ put (arrival feed item) self.old) }
         ensures err { OnErr result (self.new ≡ self.old) }
     {
+        self.seen = Seen::Nothing;
         put(&mut self.heads, Arrival { feed, item })
     }
 
@@ -54,6 +61,7 @@ impl Heads {
     pub fn forget(&mut self, feed: FeedNo)
         ensures { self.new ≡ without feed.0 self.old }
     {
+        self.seen = Seen::Nothing;
         forget(&mut self.heads, feed)
     }
 
@@ -62,14 +70,20 @@ impl Heads {
         ensures first { result ≡ find (λ a. stops a.item) self.now }
         ensures rising { AreRising self.now }
     {
-        first_stop(&self.heads)
+        match self.seen {
+            Seen::Calm(_) => None,
+            Seen::Nothing => first_stop(&self.heads),
+        }
     }
 
     /// The least end of the heads that are a bar or a coarse row. `None` exactly where no head is.
     pub fn next_frontier(&self) -> Option<Moment>
         ensures { IsFrontier self.now result }
     {
-        least_end(&self.heads)
+        match self.seen {
+            Seen::Calm(least) => least,
+            Seen::Nothing => least_end(&self.heads),
+        }
     }
 
     /// Appends the items that end at a moment, by the numbers of their feeds and those of one feed in order, and sets the
@@ -90,14 +104,15 @@ impl Heads {
         ensures opened { OnOk result (AreOpen (P.is_open pool.new) self.new) }
         ensures same { OnErr result (out.new.items ≡ out.old.items) }
         ensures added { P.added pool.new ≡ P.added pool.old }
-        ensures files { P.files pool.new ≡ P.files pool.old }
-        ensures lists { P.lists pool.new ≡ P.lists pool.old }
-        ensures grows { P.faults pool.old ≤ P.faults pool.new }
-        ensures place { P.place pool.new ≡ P.place pool.old }
+        ensures stays { Stays P.files P.lists P.faults P.place pool.old pool.new }
     {
         let before = out.len();
+        self.seen = Seen::Nothing;
         match refill_all(&mut self.heads, pool, at, out) {
-            Ok(()) => Ok(()),
+            Ok(seen) => {
+                self.seen = seen;
+                Ok(())
+            }
             Err(NoMemory) => {
                 out.truncate(before);
                 Err(NoMemory)

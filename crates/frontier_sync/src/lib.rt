@@ -10,6 +10,8 @@ mod heads;
 pub mod laws;
 mod places;
 mod refill;
+mod seen;
+mod taking;
 
 pub use first::first_head;
 pub use heads::Heads;

@@ -1,27 +1,30 @@
 //! Takes the items that end at a moment, and the heads that follow them.
-ghost use Rattle.std.specs.Prelude.{◌≡◌, ◌≢◌, ℕ, ◌<◌, ◌≤◌, ◌==◌, true, false, not, if◌then◌else◌, List, [], ◌∷◌, ◌++◌, map, OnOk};
-ghost use Rattle.std.specs.List.{All};
+ghost use Rattle.std.specs.Prelude.{◌≡◌, ◌≢◌, ℕ, true, List, ◌++◌, map, OnOk, IfOk};
 ghost use Rattle.lean_items.specs.declared.arrival.Arrival.{Arrival};
 ghost use Rattle.lean_items.specs.declared.item.Item.{Item};
-ghost use Rattle.lean_items.specs.Fits.{fits};
-ghost use Rattle.lean_items.specs.Given.{is_last, IsRow, OnRow};
+ghost use Rattle.lean_items.specs.Given.{IsRow};
 ghost use Rattle.frontier_sync.specs.Heads.{arrival, AreRising, AreOpen};
+ghost use Rattle.frontier_sync.specs.Seen.{IsSeen};
 ghost use Rattle.frontier_sync.specs.Slices.{IsSliced, Refilled, given_of, slice_of, TakesOfHeads, MovesOn, TakesOfOne};
+ghost use Rattle.frontier_sync.specs.Stays.{Stays};
 
-use crate::fits::{ends_at, fits};
+use crate::fits::ends_at;
+use crate::seen::{Seen, seen_with};
+use crate::taking::take_fitting;
 use lean_fixed::{Moment, NoMemory};
 use lean_items::{Arrival, FeedNo, Item, Pool};
 
-// Refills all heads that end at a moment.
+// Refills all heads that end at a moment, and says what was seen of the heads that follow.
 pub(crate) fn refill_all<P: Pool>(
     heads: &mut Vec<Arrival>,
     pool: &mut P,
     at: Moment,
     out: &mut Vec<Arrival>,
-) -> Result<(), NoMemory>
+) -> Result<Seen, NoMemory>
     requires rising { AreRising heads.old.items }
     requires opened { AreOpen (P.is_open pool.old) heads.old.items }
     ensures rising { AreRising heads.new.items }
+    ensures seen { IfOk result (λ seen. IsSeen heads.new.items seen) }
     ensures took { (taken : ℕ → List Item)
         × OnOk result (IsSliced at.0 taken heads.old.items heads.new.items
         × (out.new.items ≡ out.old.items ++ slice_of at.0 taken heads.old.items))
@@ -30,16 +33,15 @@ pub(crate) fn refill_all<P: Pool>(
     ensures opened { OnOk result (AreOpen (P.is_open pool.new) heads.new.items) }
     ensures front { (more : List Arrival) × (out.new.items ≡ out.old.items ++ more) }
     ensures added { P.added pool.new ≡ P.added pool.old }
-    ensures files { P.files pool.new ≡ P.files pool.old }
-    ensures lists { P.lists pool.new ≡ P.lists pool.old }
-    ensures grows { P.faults pool.old ≤ P.faults pool.new }
-    ensures place { P.place pool.new ≡ P.place pool.old }
+    ensures stays { Stays P.files P.lists P.faults P.place pool.old pool.new }
 {
+    let mut seen = Seen::Calm(None);
     'heads: for place in 0..heads.len() {
         let head = &mut heads[place];
         refill(pool, head, at, out)?;
+        seen = seen_with(seen, &head.item);
     }
-    Ok(())
+    Ok(seen)
 }
 
 // Appends the items of one feed that end at a moment, and takes the head that follows.
@@ -60,38 +62,12 @@ fn refill<P: Pool>(
     ensures others { (n : ℕ) → n ≢ head.old.feed.0 → P.is_open pool.new n ≡ P.is_open pool.old n }
     ensures front { (more : List Arrival) × (out.new.items ≡ out.old.items ++ more) }
     ensures added { P.added pool.new ≡ P.added pool.old }
-    ensures files { P.files pool.new ≡ P.files pool.old }
-    ensures lists { P.lists pool.new ≡ P.lists pool.old }
-    ensures grows { P.faults pool.old ≤ P.faults pool.new }
-    ensures place { P.place pool.new ≡ P.place pool.old }
+    ensures stays { Stays P.files P.lists P.faults P.place pool.old pool.new }
 {
     let feed = head.feed;
     'items: while ends_at(at, &head.item) {
         out.push(*head)?;
-        head.item = take_next(pool, feed, at);
+        head.item = take_fitting(pool, feed, at, false);
     }
     Ok(())
-}
-
-// Takes the next item of a feed that fits behind one that ends at a moment.
-fn take_next<P: Pool>(pool: &mut P, feed: FeedNo, at: Moment) -> Item
-    requires opened { P.is_open pool.old feed.0 ≡ true }
-    ensures fits { fits at.0 result ≡ true }
-    ensures took { (passed : List Item) × All (λ item. fits at.0 item ≡ false) passed
-        × TakesOfOne (P.stands pool.old) (P.stands pool.new) feed.0 (passed ++ result ∷ []) }
-    ensures opened { (n : ℕ) → P.is_open pool.new n
-        ≡ (if n == feed.0 then not (is_last result) else P.is_open pool.old n) }
-    ensures fewer { OnRow result (P.room pool.new feed.0 < P.room pool.old feed.0) }
-    ensures added { P.added pool.new ≡ P.added pool.old }
-    ensures files { P.files pool.new ≡ P.files pool.old }
-    ensures lists { P.lists pool.new ≡ P.lists pool.old }
-    ensures grows { P.faults pool.old ≤ P.faults pool.new }
-    ensures place { P.place pool.new ≡ P.place pool.old }
-{
-    'taken: loop {
-        let item = pool.take(feed);
-        if fits(at, &item) {
-            return item;
-        }
-    }
 }

@@ -1,15 +1,5 @@
-pub mod DayStarts
-pub mod HeadLemmas
-pub mod SheetLemmas
-pub mod StepLemmas
-pub mod FollowLemmas
-pub mod NextLemmas
-pub mod Stepping
-pub mod Walking
 pub mod WordLemmas
 pub mod HoursLemmas
 pub mod WindowLemmas
-pub mod Reporting
-pub mod SourceLemmas
 pub mod Running
-pub mod SessionLemmas
+pub mod TapeLemmas

@@ -6,49 +6,35 @@ use Rattle.lean_fixed.specs.declared.time.Window.{Window}
 use Rattle.lean_io.specs.Told.{Files, Rose}
 use Rattle.exchange_hours.specs.Entries.{Entries}
 use Rattle.clock_steps.specs.Runs.{Ran}
-use Rattle.session_tape.specs.Reports.{ended_by}
+use Rattle.report_pages.specs.Ended.{ended_by}
 use Rattle.session_tape.specs.Session.{SessionBar, Refusal as SessionRefusal, session_sources, session}
 use Rattle.lean_top.specs.declared.status.Status.{Status}
 use Rattle.lean_top.specs.declared.status.Status.TheVariants.{Done, Usage, Algorithm, BadRow, ReadFault, WriteFault, NoMemory, Limit}
 use Rattle.lean_top.specs.Command.{Asked, DailyTape, SessionTape, command}
-use Rattle.lean_top.specs.declared.head.Head.TheVariants.{Faulted}
-use Rattle.lean_top.specs.DailyTape.{Refusal, securities, tape, tape_text, last_line}
+use Rattle.daily_tape.specs.DailyTape.{securities, tape}
 use Rattle.lean_top.specs.Ending.{Seen, IsStop, Meets, IsComplete, ComesExactly, RefusesHours, StopsSession, HasBadRow, HasRun}
 use Rattle.lean_top.specs.HoursRead.{hours_file}
-use Rattle.lean_top.specs.Outcome.{HasReported, HasTaped, HasUsage, HasStatusCause, NamesNoUsage}
+use Rattle.lean_top.specs.Outcome.{HasReported, HasUsage, HasStatusCause, NamesNoUsage}
 use Rattle.report_pages.specs.Printed.{IsTaken, IsFront}
 use Rattle.lean_top.specs.Report.{report, report_of, ended_status, session_with, AreWholeSteps}
-use Rattle.lean_top.proofs.Reporting.{rows_at_stop, text_behind}
 
 -- the sink took the whole report and the status is the report's, or it took a front of it and the status is a stop
 abbrev pub Delivers : List ℕ × Status → Option (List ℕ) → Option (List ℕ) → Seen → Seen → Status → Type 0
 Delivers want before after old new status =
     ((status ≡ want.1) × IsTaken before after want.0) ⊎ (IsStop old new status × IsFront before after want.0)
 
--- the last line of a tape names a malformed line exactly where one stops it, and never the hours file
-bad_last : (rows : ℕ) (stop : Option Refusal) → (last_line rows stop).1 ≡ BadRow → IsSome stop
-bad_last rows (Some refusal) e = refl
-bad_last rows None e = cc
+-- a tape names a malformed line exactly where one stops it, and never the hours file
+bad_row : {X : Type 0} (stop : Option X) → ended_status (ended_by stop) ≡ BadRow → IsSome stop
+bad_row (Some refusal) e = refl
+bad_row None e = cc
 
-last_bad : (rows : ℕ) (stop : Option Refusal) → IsSome stop → (last_line rows stop).1 ≡ BadRow
-last_bad rows (Some refusal) some = refl
-last_bad rows None some = cc
+row_bad : {X : Type 0} (stop : Option X) → IsSome stop → ended_status (ended_by stop) ≡ BadRow
+row_bad (Some refusal) some = refl
+row_bad None some = cc
 
-no_hours : (rows : ℕ) (stop : Option Refusal) → (last_line rows stop).1 ≡ Algorithm → ⊥
-no_hours rows (Some refusal) e = cc
-no_hours rows None e = cc
-
-bad_session : (stop : Option SessionRefusal) → ended_status (ended_by stop) ≡ BadRow → IsSome stop
-bad_session (Some refusal) e = refl
-bad_session None e = cc
-
-session_bad : (stop : Option SessionRefusal) → IsSome stop → ended_status (ended_by stop) ≡ BadRow
-session_bad (Some refusal) some = refl
-session_bad None some = cc
-
-session_no_hours : (stop : Option SessionRefusal) → ended_status (ended_by stop) ≡ Algorithm → ⊥
-session_no_hours (Some refusal) e = cc
-session_no_hours None e = cc
+no_hours : {X : Type 0} (stop : Option X) → ended_status (ended_by stop) ≡ Algorithm → ⊥
+no_hours (Some refusal) e = cc
+no_hours None e = cc
 
 module _ (files : Files) (resolution : Resolution) (window : Window) (symbols : List (List ℕ)) where
   abbrev whole : Entries → Ran (Unit {0}) SessionBar SessionRefusal
@@ -56,7 +42,7 @@ module _ (files : Files) (resolution : Resolution) (window : Window) (symbols : 
 
   session_refuses : (hours : Result Entries (List ℕ)) → (session_with files resolution window symbols hours).1 ≡ Algorithm → IsErr hours
   session_refuses (Err word) e = refl
-  session_refuses (Ok hours) e = absurd (session_no_hours (whole hours).stop e)
+  session_refuses (Ok hours) e = absurd (no_hours (whole hours).stop e)
 
   refuses_session : (hours : Result Entries (List ℕ)) → IsErr hours → (session_with files resolution window symbols hours).1 ≡ Algorithm
   refuses_session (Err word) e = refl
@@ -64,16 +50,16 @@ module _ (files : Files) (resolution : Resolution) (window : Window) (symbols : 
 
   session_stops : (hours : Result Entries (List ℕ)) → (session_with files resolution window symbols hours).1 ≡ BadRow → StopsSession files resolution window symbols hours
   session_stops (Err word) e = cc
-  session_stops (Ok hours) e = bad_session (whole hours).stop e
+  session_stops (Ok hours) e = bad_row (whole hours).stop e
 
   stops_session : (hours : Result Entries (List ℕ)) → StopsSession files resolution window symbols hours → (session_with files resolution window symbols hours).1 ≡ BadRow
   stops_session (Err word) e = absurd e
-  stops_session (Ok hours) e = session_bad (whole hours).stop e
+  stops_session (Ok hours) e = row_bad (whole hours).stop e
 
 module _ (files : Files) where
   report_refuses : (asked : Option Asked) → (report_of files asked).1 ≡ Algorithm → RefusesHours files asked
   report_refuses None e = cc
-  report_refuses (Some (DailyTape symbols)) e = no_hours _ (tape (securities files symbols)).stop e
+  report_refuses (Some (DailyTape symbols)) e = no_hours (tape (securities files symbols)).stop e
   report_refuses (Some (SessionTape resolution window symbols)) e = session_refuses files resolution window symbols (hours_file files) e
 
   refuses_report : (asked : Option Asked) → RefusesHours files asked → (report_of files asked).1 ≡ Algorithm
@@ -83,12 +69,12 @@ module _ (files : Files) where
 
   report_stops : (asked : Option Asked) → (report_of files asked).1 ≡ BadRow → HasBadRow files asked
   report_stops None e = cc
-  report_stops (Some (DailyTape symbols)) e = bad_last _ (tape (securities files symbols)).stop e
+  report_stops (Some (DailyTape symbols)) e = bad_row (tape (securities files symbols)).stop e
   report_stops (Some (SessionTape resolution window symbols)) e = session_stops files resolution window symbols (hours_file files) e
 
   stops_report : (asked : Option Asked) → HasBadRow files asked → (report_of files asked).1 ≡ BadRow
   stops_report None e = absurd e
-  stops_report (Some (DailyTape symbols)) e = last_bad _ (tape (securities files symbols)).stop e
+  stops_report (Some (DailyTape symbols)) e = row_bad (tape (securities files symbols)).stop e
   stops_report (Some (SessionTape resolution window symbols)) e = stops_session files resolution window symbols (hours_file files) e
 
 module _ (old new : Seen) where
@@ -212,24 +198,3 @@ module _ (old new : Seen) where
         folder_grows = folder;
         sink_grows = sink;
       }
-
-module _ (files : Files) where
-  daily_reported : (symbols : List (List ℕ)) (before after : Option (List ℕ)) (status : Status) → HasTaped (securities files symbols) before after status
-      → HasReported (report_of files (Some (DailyTape symbols))) (AreWholeSteps files (Some (DailyTape symbols))) before after status
-  daily_reported symbols before after Done has = has
-  daily_reported symbols before after BadRow has = has
-  daily_reported symbols before after ReadFault (rows, whole, taken) =
-      let all = securities files symbols in
-      let behind = text_behind {H = ℕ} all [] rows (rows_at_stop {H = ℕ} all [] rows [] Faulted whole) in
-      (tape_text rows, (rows, whole, refl), record { rest = behind.0; is = behind.1 }, taken)
-  daily_reported symbols before after NoMemory has = has
-  daily_reported symbols before after WriteFault has = has
-  daily_reported symbols before after Usage has = absurd has
-  daily_reported symbols before after Algorithm has = absurd has
-  daily_reported symbols before after Limit has = absurd has
-
-  pub daily_reported_by : (asked : Asked) (symbols items : List (List ℕ)) (before after : Option (List ℕ)) (status : Status)
-      → asked ≡ DailyTape symbols → items ≡ symbols → HasTaped (securities files items) before after status
-      → HasReported (report_of files (Some asked)) (AreWholeSteps files (Some asked)) before after status
-  daily_reported_by asked symbols items before after status is same has =
-      rw is (daily_reported symbols before after status (subst (λ l. HasTaped (securities files l) before after status) same has))

@@ -9,7 +9,7 @@ use Rattle.session_tape.specs.Session.{session_sources, session}
 use Rattle.lean_top.specs.declared.status.Status.{Status}
 use Rattle.lean_top.specs.declared.status.Status.TheVariants.{Usage, Algorithm, BadRow, ReadFault, WriteFault, NoMemory}
 use Rattle.lean_top.specs.Command.{Asked, DailyTape, SessionTape, command}
-use Rattle.lean_top.specs.DailyTape.{securities, tape}
+use Rattle.daily_tape.specs.DailyTape.{securities, tape}
 use Rattle.lean_top.specs.HoursRead.{hours_file}
 use Rattle.lean_top.specs.Report.{report, AreWholeSteps}
 

@@ -1,14 +1,6 @@
-pub mod Entry
 pub mod Status
 pub mod Command
 pub mod Asked
-pub mod DailyFile
-pub mod DailyTape
-pub mod Head
-pub mod Source
-pub mod Steps
-pub mod Whole
-pub mod Endings
 pub mod HoursRead
 pub mod HoursGiven
 pub mod Report

@@ -1,14 +1,12 @@
 -- What the parts of a command have printed, and why they ended.
-use Rattle.std.specs.Prelude.{◌≡◌, ℕ, List, Option, codes, Result, Ok, Err}
-use Rattle.lean_io.specs.Told.{Rose}
+use Rattle.std.specs.Prelude.{◌≡◌, ℕ, ◌≤◌, List, Option, codes, Result, Ok, Err}
+use Rattle.lean_io.specs.Told.{Files, Rose}
 use Rattle.clock_steps.specs.Runs.{IsFrontOf}
 use Rattle.report_pages.specs.declared.pages.Stop.{Stop}
 use Rattle.report_pages.specs.declared.pages.Stop.TheVariants.{NoMemory as OutOfMemory, WriteFault as FailedWrite}
 use Rattle.lean_top.specs.declared.status.Status.{Status}
 use Rattle.lean_top.specs.declared.status.Status.TheVariants.{Usage, Algorithm, ReadFault, WriteFault, NoMemory, Limit}
-use Rattle.session_tape.specs.declared.ending.Ended.{Ended}
-use Rattle.lean_top.specs.DailyTape.{Security}
-use Rattle.lean_top.specs.Endings.{IsTapeReport, IsTapeFront}
+use Rattle.report_pages.specs.declared.ended.Ended.{Ended}
 use Rattle.lean_top.specs.Report.{ended_status}
 use Rattle.report_pages.specs.Printed.{IsTaken, IsFront}
 
@@ -16,15 +14,6 @@ use Rattle.report_pages.specs.Printed.{IsTaken, IsFront}
 abbrev pub stop_status : Stop → Status
 stop_status OutOfMemory = NoMemory
 stop_status FailedWrite = WriteFault
-
--- what the sink took of a tape, by the status
-abbrev pub HasTaped : List Security → Option (List ℕ) → Option (List ℕ) → Status → Type 0
-HasTaped all before after NoMemory = IsTapeFront all before after
-HasTaped all before after WriteFault = IsTapeFront all before after
-HasTaped all before after Usage = ⊥
-HasTaped all before after Algorithm = ⊥
-HasTaped all before after Limit = ⊥
-HasTaped all before after status = IsTapeReport all before after status
 
 -- What the sink took of a report, by the status: all of it; a front of it where memory or a write failed; and where a read
 -- failed, some whole steps of it.
@@ -52,16 +41,10 @@ abbrev pub NamesNoUsage : Status → Type 0
 NamesNoUsage Usage = ⊥
 NamesNoUsage _ = Unit {0}
 
--- the same of a tape: after a failed read one of the hands counted it
-abbrev pub HasTapeCause : Type 0 → ℕ → ℕ → Status → Type 0
-HasTapeCause faulted sink sink_now ReadFault = faulted
-HasTapeCause faulted sink sink_now WriteFault = Rose sink sink_now
-HasTapeCause faulted sink sink_now _ = Unit {0}
-
--- the status of a session tape, by how it ended
-abbrev pub session_status : Result Ended Stop → Status
-session_status (Ok ended) = ended_status ended
-session_status (Err stop) = stop_status stop
+-- the status of a tape, by how it ended
+abbrev pub tape_status : Result Ended Stop → Status
+tape_status (Ok ended) = ended_status ended
+tape_status (Err stop) = stop_status stop
 
 -- what the sink took of the line that refuses a file
 abbrev pub HasRefused : List ℕ → Option (List ℕ) → Option (List ℕ) → Status → Type 0
@@ -69,3 +52,13 @@ HasRefused line before after Algorithm = IsTaken before after line
 HasRefused line before after NoMemory = IsFront before after line
 HasRefused line before after WriteFault = IsFront before after line
 HasRefused line before after _ = ⊥
+
+-- What a call has done whatever is told, from the folder and the sink before it to those after it: a fault of the outside that
+-- is its status was counted, all hands were given back, what the folder tells stays, and no count falls.
+pub record Went {F S : Type 0} (told : F → Option Files) (hands folder_faults : F → ℕ) (sink_faults : S → ℕ)
+    (folder folder_now : F) (sink sink_now : S) (status : Status) : Type 0 where
+  pub cause : HasStatusCause (folder_faults folder) (folder_faults folder_now) (sink_faults sink) (sink_faults sink_now) status
+  pub back : hands folder_now ≡ hands folder
+  pub kept : told folder_now ≡ told folder
+  pub folder_grows : folder_faults folder ≤ folder_faults folder_now
+  pub sink_grows : sink_faults sink ≤ sink_faults sink_now

@@ -6,23 +6,26 @@ use Rattle.lean_io.specs.Told.{Files}
 use Rattle.exchange_hours.specs.Entries.{Entries}
 use Rattle.clock_feeds.specs.Slices.{Source}
 use Rattle.clock_steps.specs.Runs.{Ran}
-use Rattle.session_tape.specs.declared.ending.Ended.{Ended}
-use Rattle.session_tape.specs.declared.ending.Ended.TheVariants as ended
-use Rattle.session_tape.specs.Reports.{ended_by}
+use Rattle.report_pages.specs.declared.ended.Ended.{Ended}
+use Rattle.report_pages.specs.declared.ended.Ended.TheVariants as ended
+use Rattle.report_pages.specs.Ended.{ended_by}
 use Rattle.session_tape.specs.Session.{SessionBar, Refusal, session_sources, session, session_text, session_bytes}
 use Rattle.session_tape.specs.Whole.{IsWhole as IsWholeSession}
 use Rattle.lean_top.specs.declared.status.Status.{Status}
 use Rattle.lean_top.specs.declared.status.Status.TheVariants.{Done, Usage, Algorithm, BadRow, ReadFault}
 use Rattle.lean_top.specs.Command.{Asked, DailyTape, SessionTape, command}
-use Rattle.lean_top.specs.DailyTape.{TapeRow, securities, tape_text, tape_report}
+use Rattle.daily_tape.specs.DailyTape.{Security, TapeRow, Refusal as DailyRefusal, securities, tape, tape_text, tape_bytes}
 use Rattle.lean_top.specs.HoursRead.{hours_file, hours_line}
-use Rattle.lean_top.specs.Whole.{IsWhole}
+use Rattle.daily_tape.specs.Whole.{IsWhole}
 
--- the status of a session tape
+-- the status of a tape
 abbrev pub ended_status : Ended → Status
 ended_status ended.Done = Done
 ended_status ended.BadRow = BadRow
 ended_status ended.ReadFault = ReadFault
+
+abbrev pub daily_report_of : Ran (Unit {0}) TapeRow DailyRefusal → List ℕ × Status
+daily_report_of ran = (tape_bytes ran, ended_status (ended_by ran.stop))
 
 abbrev pub session_report_of : Resolution → Ran (Unit {0}) SessionBar Refusal → List ℕ × Status
 session_report_of resolution ran = (session_bytes resolution ran, ended_status (ended_by ran.stop))
@@ -35,11 +38,15 @@ session_with files resolution window symbols (Ok hours) =
 
 abbrev pub report_of : Files → Option Asked → List ℕ × Status
 report_of files None = (codes "usage\n", Usage)
-report_of files (Some (DailyTape symbols)) = tape_report files symbols
+report_of files (Some (DailyTape symbols)) = daily_report_of (tape (securities files symbols))
 report_of files (Some (SessionTape resolution window symbols)) = session_with files resolution window symbols (hours_file files)
 
 abbrev pub report : Files → List (List ℕ) → List ℕ × Status
 report files words = report_of files (command words)
+
+-- bytes that are the lines of whole days of a daily tape, of all up to some one
+abbrev pub AreDaysOf : List Security → List ℕ → Type 0
+AreDaysOf all bytes = (rows : List TapeRow) × IsWhole all rows × (bytes ≡ tape_text rows)
 
 -- bytes that are the lines of whole minutes of a session tape, of all moments up to some one
 abbrev pub AreMinutesBy : List (List ℕ × Source) → Window → List ℕ → Type 0
@@ -53,7 +60,6 @@ AreMinutes files resolution window symbols (Ok hours) bytes = AreMinutesBy (sess
 -- session tape, or nothing
 abbrev pub AreWholeSteps : Files → Option Asked → List ℕ → Type 0
 AreWholeSteps files None bytes = ⊥
-AreWholeSteps files (Some (DailyTape symbols)) bytes =
-    (rows : List TapeRow) × IsWhole (securities files symbols) rows × (bytes ≡ tape_text rows)
+AreWholeSteps files (Some (DailyTape symbols)) bytes = AreDaysOf (securities files symbols) bytes
 AreWholeSteps files (Some (SessionTape resolution window symbols)) bytes =
     (bytes ≡ []) ⊎ AreMinutes files resolution window symbols (hours_file files) bytes

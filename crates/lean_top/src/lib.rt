@@ -3,19 +3,12 @@
 //! status names the cause.
 #![tactic(auto)]
 
-mod daily_row;
-mod daily_tape;
-mod head;
 mod hours;
-mod path;
 mod report;
 mod session;
 #[cfg(test)]
 mod session_tests;
-mod source;
-mod sources;
 mod status;
-mod tape;
 #[cfg(test)]
 mod tests;
 mod top;

@@ -1,25 +1,19 @@
 //! The command line from its words to its report.
-ghost use Rattle.std.specs.Prelude.{◌≡◌, ◌≤◌, List, Some, None, map, length, string_bytes};
-ghost use Rattle.std.specs.List.{AllByRecursion, AllZip};
+ghost use Rattle.std.specs.Prelude.{◌≡◌, ◌≤◌, Some, None, map, length, string_bytes};
 ghost use Rattle.lean_io.specs.Told.{Files, Rose};
+ghost use Rattle.daily_tape.specs.DailyTape.{securities, tape};
 ghost use Rattle.lean_top.specs.Asked.{asked_by, IsAsked};
 ghost use Rattle.lean_top.specs.Command.{Asked, command};
-ghost use Rattle.lean_top.specs.DailyTape.{Security, securities};
-ghost use Rattle.lean_top.specs.Endings.{HasFaulted};
-ghost use Rattle.lean_top.specs.Outcome.{stop_status, HasTaped, HasReported, HasUsage, HasStatusCause, HasTapeCause, NamesNoUsage};
-ghost use Rattle.lean_top.specs.Report.{report, report_of, AreWholeSteps};
-ghost use Rattle.lean_top.specs.Source.{IsSound, Follows};
-ghost use Rattle.lean_top.specs.Steps.{AllPast};
+ghost use Rattle.lean_top.specs.Outcome.{HasReported, HasUsage, NamesNoUsage, Went};
+ghost use Rattle.lean_top.specs.Report.{report, report_of, daily_report_of, AreDaysOf, AreWholeSteps};
 
 use crate::session::session_tape;
-use crate::source::Source;
-use crate::sources::{give_back, open_sources};
-use crate::status::Status;
-use crate::tape::print_tape;
+use crate::status::{Status, status_of};
 use crate::words::{Command, read_words};
+use daily_tape::laws::days_are_a_front;
+use daily_tape::print_daily;
 use lean_fixed::{NoMemory, Symbol};
-use lean_io::{Folder, Hand, Sink, WriteFault, write_whole};
-use report_pages::Stop;
+use lean_io::{Folder, Sink, WriteFault, write_whole};
 use std::alloc::Global;
 
 /// Runs a command line.
@@ -36,11 +30,7 @@ pub fn run<F: Folder, S: Sink>(
         → HasUsage (S.told out.old) (S.told out.new) result }
     ensures taken { (asked : Asked)
         → command (map string_bytes words.now) ≡ Some asked → NamesNoUsage result }
-    ensures cause { HasStatusCause (F.faults folder.old) (F.faults folder.new)
-        (S.faults out.old) (S.faults out.new) result }
-    ensures kept { F.files folder.new ≡ F.files folder.old }
-    ensures folder_grows { F.faults folder.old ≤ F.faults folder.new }
-    ensures sink_grows { S.faults out.old ≤ S.faults out.new }
+    ensures went { Went F.files F.hands F.faults S.faults folder.old folder.new out.old out.new result }
 {
     match read_words(alloc, words) {
         Ok(Some(command)) => run_command(alloc, &command, folder, out),
@@ -61,11 +51,7 @@ fn run_command<F: Folder, S: Sink>(
         → HasReported (report_of f (Some (asked_by command.now))) (AreWholeSteps f (Some (asked_by command.now)))
         (S.told out.old) (S.told out.new) result }
     ensures taken { NamesNoUsage result }
-    ensures cause { HasStatusCause (F.faults folder.old) (F.faults folder.new)
-        (S.faults out.old) (S.faults out.new) result }
-    ensures kept { F.files folder.new ≡ F.files folder.old }
-    ensures folder_grows { F.faults folder.old ≤ F.faults folder.new }
-    ensures sink_grows { S.faults out.old ≤ S.faults out.new }
+    ensures went { Went F.files F.hands F.faults S.faults folder.old folder.new out.old out.new result }
 {
     match command {
         Command::DailyTape(symbols) => daily_tape(alloc, symbols, folder, out),
@@ -75,7 +61,7 @@ fn run_command<F: Folder, S: Sink>(
     }
 }
 
-// Prints the daily tape of the securities.
+// Prints the daily tape of the symbols.
 fn daily_tape<F: Folder, S: Sink>(
     alloc: Global,
     symbols: &[Symbol],
@@ -83,44 +69,15 @@ fn daily_tape<F: Folder, S: Sink>(
     out: &mut S,
 ) -> Status
     requires { length symbols.now ≤ 64 }
-    ensures taped { (f : Files) → F.files folder.old ≡ Some f
-        → HasTaped (securities f symbols.now) (S.told out.old) (S.told out.new) result }
+    ensures reported { (f : Files) → F.files folder.old ≡ Some f
+        → HasReported (daily_report_of (tape (securities f symbols.now))) (AreDaysOf (securities f symbols.now))
+        (S.told out.old) (S.told out.new) result }
     ensures taken { NamesNoUsage result }
-    ensures cause { HasStatusCause (F.faults folder.old) (F.faults folder.new)
-        (S.faults out.old) (S.faults out.new) result }
-    ensures kept { F.files folder.new ≡ F.files folder.old }
-    ensures folder_grows { F.faults folder.old ≤ F.faults folder.new }
-    ensures sink_grows { S.faults out.old ≤ S.faults out.new }
+    ensures went { Went F.files F.hands F.faults S.faults folder.old folder.new out.old out.new result }
 {
-    match Vec::with_capacity(alloc, symbols.len()) {
-        Ok(mut sources) => {
-            let status = match open_sources(alloc, symbols, folder, &mut sources) {
-                Ok(()) => tape_of(alloc, &mut sources, out),
-                Err(NoMemory) => Status::NoMemory,
-            };
-            give_back(sources, folder);
-            status
-        }
-        Err(_) => Status::NoMemory,
-    }
-}
-
-// Prints the tape of the securities that were opened.
-fn tape_of<H: Hand, S: Sink>(alloc: Global, sources: &mut Vec<Source<H>>, out: &mut S) -> Status
-    requires sound { AllByRecursion (IsSound H.is_open H.faults) sources.old.items }
-    requires past { AllPast 0 sources.old.items }
-    requires few { length sources.old.items ≤ 64 }
-    ensures taped { (f : Files) (all : List Security)
-        → AllZip (Follows H.files H.rest f 0) all sources.old.items
-        → HasTaped all (S.told out.old) (S.told out.new) result }
-    ensures taken { NamesNoUsage result }
-    ensures cause { HasTapeCause (HasFaulted H.faults sources.new.items) (S.faults out.old) (S.faults out.new) result }
-    ensures grows { S.faults out.old ≤ S.faults out.new }
-{
-    match print_tape(alloc, sources, out) {
-        Ok(status) => status,
-        Err(stop) => status_of(stop),
-    }
+    days_are_a_front();
+    let ended = print_daily(alloc, symbols, folder, out);
+    status_of(ended)
 }
 
 fn print_usage<S: Sink>(out: &mut S) -> Status
@@ -131,14 +88,5 @@ fn print_usage<S: Sink>(out: &mut S) -> Status
     match write_whole(out, b"usage\n") {
         Ok(()) => Status::Usage,
         Err(WriteFault) => Status::WriteFault,
-    }
-}
-
-fn status_of(stop: Stop) -> Status
-    ensures { result ≡ stop_status stop }
-{
-    match stop {
-        Stop::NoMemory => Status::NoMemory,
-        Stop::WriteFault => Status::WriteFault,
     }
 }

@@ -7,19 +7,18 @@ ghost use Rattle.session_tape.specs.Session.{session_sources, session};
 ghost use Rattle.lean_top.specs.Asked.{IsInOrder};
 ghost use Rattle.lean_top.specs.Command.{SessionTape};
 ghost use Rattle.lean_top.specs.HoursRead.{hours_line};
-ghost use Rattle.lean_top.specs.Outcome.{HasReported, HasRefused, HasStatusCause, NamesNoUsage, session_status};
+ghost use Rattle.lean_top.specs.Outcome.{HasReported, HasRefused, NamesNoUsage, Went};
 ghost use Rattle.lean_top.specs.Report.{report_of, session_report_of, AreWholeSteps, AreMinutesBy};
 
 use crate::hours::{HoursRead, read_hours};
-use crate::status::Status;
+use crate::status::{Status, status_of};
 use exchange_hours::Hours;
 use exchange_hours::laws::sessions_lie;
 use feed_pool::SerialPool;
 use lean_fixed::{NoMemory, Resolution, Symbol, Window};
 use lean_io::{Folder, Sink, WriteFault, write_whole};
-use report_pages::Stop;
 use session_tape::laws::minutes_are_a_front;
-use session_tape::{Ended, print_session};
+use session_tape::print_session;
 use std::alloc::Global;
 use std::sync::Arc;
 
@@ -38,11 +37,7 @@ pub fn session_tape<F: Folder, S: Sink>(
         → HasReported (report_of f (Some (SessionTape resolution window symbols.now)))
         (AreWholeSteps f (Some (SessionTape resolution window symbols.now))) (S.told out.old) (S.told out.new) result }
     ensures taken { NamesNoUsage result }
-    ensures cause { HasStatusCause (F.faults folder.old) (F.faults folder.new)
-        (S.faults out.old) (S.faults out.new) result }
-    ensures kept { F.files folder.new ≡ F.files folder.old }
-    ensures folder_grows { F.faults folder.old ≤ F.faults folder.new }
-    ensures sink_grows { S.faults out.old ≤ S.faults out.new }
+    ensures went { Went F.files F.hands F.faults S.faults folder.old folder.new out.old out.new result }
 {
     match read_hours(alloc, folder) {
         Ok(HoursRead::Read(hours)) => {
@@ -71,11 +66,7 @@ fn tape_by<F: Folder, S: Sink>(
         (AreMinutesBy (session_sources f hours resolution window symbols.now) window)
         (S.told out.old) (S.told out.new) result }
     ensures taken { NamesNoUsage result }
-    ensures cause { HasStatusCause (F.faults folder.old) (F.faults folder.new)
-        (S.faults out.old) (S.faults out.new) result }
-    ensures kept { F.files folder.new ≡ F.files folder.old }
-    ensures folder_grows { F.faults folder.old ≤ F.faults folder.new }
-    ensures sink_grows { S.faults out.old ≤ S.faults out.new }
+    ensures went { Went F.files F.hands F.faults S.faults folder.old folder.new out.old out.new result }
 {
     match Arc::new(alloc, hours) {
         Ok(hours) => tape_over(alloc, hours, resolution, window, symbols, folder, out),
@@ -101,11 +92,7 @@ fn tape_over<F: Folder, S: Sink>(
         (AreMinutesBy (session_sources f (arc_value hours) resolution window symbols.now) window)
         (S.told out.old) (S.told out.new) result }
     ensures taken { NamesNoUsage result }
-    ensures cause { HasStatusCause (F.faults folder.old) (F.faults folder.new)
-        (S.faults out.old) (S.faults out.new) result }
-    ensures kept { F.files folder.new ≡ F.files folder.old }
-    ensures folder_grows { F.faults folder.old ≤ F.faults folder.new }
-    ensures sink_grows { S.faults out.old ≤ S.faults out.new }
+    ensures went { Went F.files F.hands F.faults S.faults folder.old folder.new out.old out.new result }
 {
     sessions_lie(&hours);
     minutes_are_a_front();
@@ -115,18 +102,6 @@ fn tape_over<F: Folder, S: Sink>(
             status_of(ended)
         }
         Err(NoMemory) => Status::NoMemory,
-    }
-}
-
-fn status_of(ended: Result<Ended, Stop>) -> Status
-    ensures { result ≡ session_status ended }
-{
-    match ended {
-        Ok(Ended::Done) => Status::Done,
-        Ok(Ended::BadRow) => Status::BadRow,
-        Ok(Ended::ReadFault) => Status::ReadFault,
-        Err(Stop::NoMemory) => Status::NoMemory,
-        Err(Stop::WriteFault) => Status::WriteFault,
     }
 }
 

@@ -1,5 +1,8 @@
 ghost use Rattle.std.specs.Prelude.{◌≡◌};
+ghost use Rattle.lean_top.specs.Outcome.{tape_status};
 ghost use Rattle.lean_top.specs.Status.{code_of};
+
+use report_pages::{Ended, Stop};
 
 /// How a command ended.
 #[derive(Clone, Copy, Debug, PartialEq, Eq, Hash)]
@@ -37,5 +40,18 @@ impl Status {
             Status::NoMemory => 6,
             Status::Limit => 7,
         }
+    }
+}
+
+// The status of a tape, by how it ended.
+pub(crate) fn status_of(ended: Result<Ended, Stop>) -> Status
+    ensures { result ≡ tape_status ended }
+{
+    match ended {
+        Ok(Ended::Done) => Status::Done,
+        Ok(Ended::BadRow) => Status::BadRow,
+        Ok(Ended::ReadFault) => Status::ReadFault,
+        Err(Stop::NoMemory) => Status::NoMemory,
+        Err(Stop::WriteFault) => Status::WriteFault,
     }
 }

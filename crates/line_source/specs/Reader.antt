@@ -1,6 +1,8 @@
 -- What a reader of lines holds, and what it gives.
-use Rattle.std.specs.Prelude.{◌≡◌, ℕ, ◌+◌, ◌-◌, ◌<◌, ◌≤◌, Bool, true, false, List, [], ◌∷◌, ◌++◌, take, drop}
-use Rattle.lean_io.specs.Told.{Rose}
+use Rattle.std.specs.Prelude.{◌≡◌, ℕ, ◌+◌, ◌-◌, ◌<◌, ◌≤◌, Bool, true, false, List, [], ◌∷◌, ◌++◌, take, drop, Option, Result, OnOk, OnErr}
+use Rattle.lean_io.specs.Told.{Files, Rose}
+use Rattle.lean_io.specs.declared.outside.Failed.{Failed}
+use Rattle.line_source.specs.declared.raw.Raw.{Raw}
 use Rattle.line_source.specs.declared.line.Line.{Line}
 use Rattle.line_source.specs.declared.line.Line.TheVariants.{Text, Long, Many, End, Faulted}
 use Rattle.line_source.specs.declared.reader.Lines.{Lines}
@@ -28,6 +30,16 @@ module _ {H : Type 0} where
   -- the lines of the open file that are still to be given
   abbrev pub lines_left : (H → List ℕ) → Lines H → List (ℕ × FileLine)
   lines_left rest lines = numbered (lines.number + 1) (raw_lines (unread rest lines))
+
+module _ {H : Type 0} (told : H → Option Files) (is_open : H → Bool) (faults : H → ℕ) where
+  -- a call read on in the open file: the hand tells the same files, and no line is counted yet
+  pub record ReadsOn (old new : Lines H) (result : Result Raw Failed) : Type 0 where
+    pub number : number_of new ≡ number_of old
+    pub opened : OnOk result (is_open (hand_of new) ≡ true)
+    pub closed : OnErr result (is_open (hand_of new) ≡ false)
+    pub rose : OnErr result (Rose (faults (hand_of old)) (faults (hand_of new)))
+    pub kept : told (hand_of new) ≡ told (hand_of old)
+    pub grows : faults (hand_of old) ≤ faults (hand_of new)
 
 -- What is given is the first line left that is not blank: its text and number, or that it is too long or one too many, or
 -- that there is none. After a text the lines behind it are left.

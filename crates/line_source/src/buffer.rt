@@ -7,22 +7,17 @@ use lean_io::{Failed, Hand};
 
 impl<H: Hand> Lines<H> {
     ghost use Rattle.std.specs.Prelude.{◌≡◌, ◌+◌, ◌<◌, ◌≤◌, true, false, Some, [], length, take, drop, IfOk, OnOk, OnErr};
-    ghost use Rattle.lean_io.specs.Told.{Files, Rose};
+    ghost use Rattle.lean_io.specs.Told.{Files};
     ghost use Rattle.line_source.specs.Raw.{GivesRaw};
     ghost use Rattle.line_source.specs.Written.{has_no_lf};
-    ghost use Rattle.line_source.specs.Reader.{hand_of, number_of, text_of, ahead_of, unread};
+    ghost use Rattle.line_source.specs.Reader.{hand_of, number_of, text_of, ahead_of, unread, ReadsOn};
 
     /// Takes what stands before the next LF, or before the file's end. `Failed`: a read failed.
     pub(crate) fn raw_line(&mut self) -> Result<Raw, Failed>
         requires { H.is_open (hand_of self.old) ≡ true }
         ensures gives { IfOk result (λ raw. (f : Files) → H.files (hand_of self.old) ≡ Some f
             → GivesRaw (unread H.rest self.old) (unread H.rest self.new) (text_of self.new) raw) }
-        ensures number { number_of self.new ≡ number_of self.old }
-        ensures opened { OnOk result (H.is_open (hand_of self.new) ≡ true) }
-        ensures closed { OnErr result (H.is_open (hand_of self.new) ≡ false) }
-        ensures rose { OnErr result (Rose (H.faults (hand_of self.old)) (H.faults (hand_of self.new))) }
-        ensures kept { H.files (hand_of self.new) ≡ H.files (hand_of self.old) }
-        ensures grows { H.faults (hand_of self.old) ≤ H.faults (hand_of self.new) }
+        ensures reads_on { ReadsOn H.files H.is_open H.faults self.old self.new result }
     {
         match find_lf(&self.buffer[self.from..self.to]) {
             Some(place) => {
@@ -72,12 +67,7 @@ impl<H: Hand> Lines<H> {
         requires whole { has_no_lf (ahead_of self.old) ≡ true }
         ensures gives { IfOk result (λ raw. (f : Files) → H.files (hand_of self.old) ≡ Some f
             → GivesRaw (unread H.rest self.old) (unread H.rest self.new) (text_of self.new) raw) }
-        ensures number { number_of self.new ≡ number_of self.old }
-        ensures opened { OnOk result (H.is_open (hand_of self.new) ≡ true) }
-        ensures closed { OnErr result (H.is_open (hand_of self.new) ≡ false) }
-        ensures rose { OnErr result (Rose (H.faults (hand_of self.old)) (H.faults (hand_of self.new))) }
-        ensures kept { H.files (hand_of self.new) ≡ H.files (hand_of self.old) }
-        ensures grows { H.faults (hand_of self.old) ≤ H.faults (hand_of self.new) }
+        ensures reads_on { ReadsOn H.files H.is_open H.faults self.old self.new result }
     {
         'reads: while self.to < MOST_BYTES {
             let known = self.to;
@@ -121,12 +111,7 @@ impl<H: Hand> Lines<H> {
         requires full { self.old.to ≡ 256 }
         ensures gives { IfOk result (λ raw. (f : Files) → H.files (hand_of self.old) ≡ Some f
             → GivesRaw (unread H.rest self.old) (unread H.rest self.new) (text_of self.new) raw) }
-        ensures number { number_of self.new ≡ number_of self.old }
-        ensures opened { OnOk result (H.is_open (hand_of self.new) ≡ true) }
-        ensures closed { OnErr result (H.is_open (hand_of self.new) ≡ false) }
-        ensures rose { OnErr result (Rose (H.faults (hand_of self.old)) (H.faults (hand_of self.new))) }
-        ensures kept { H.files (hand_of self.new) ≡ H.files (hand_of self.old) }
-        ensures grows { H.faults (hand_of self.old) ≤ H.faults (hand_of self.new) }
+        ensures reads_on { ReadsOn H.files H.is_open H.faults self.old self.new result }
     {
         let mut next = [0; 1];
         match self.hand.read(&mut next) {

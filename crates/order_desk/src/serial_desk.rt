@@ -10,7 +10,7 @@ use lean_orders::{Command, Heard, Reply, Ticket};
 use order_book::Book;
 use std::alloc::Global;
 
-/// A desk whose book handles each command as it is submitted. Hearing takes no memory.
+/// A desk whose book handles each command as it is submitted. Want of memory is answered by `submit` alone.
 #[derive(Drop)]
 pub struct SerialDesk {
     book: Book,

@@ -1,4 +1,4 @@
-ghost use Rattle.std.specs.Prelude.{◌≡◌, ◌≤◌, Some, IfOk};
+ghost use Rattle.std.specs.Prelude.{◌≡◌, ◌≤◌, Some, IfOk, OnOk};
 ghost use Rattle.std.specs.Arc.{arc_value};
 ghost use Rattle.std.specs.List.{Contains};
 ghost use Rattle.lean_fixed.specs.Counts.{Rose};
@@ -18,7 +18,8 @@ use std::alloc::Global;
 use std::sync::Arc;
 
 /// Takes all items of the feed of a key over the files of a folder, by a pool that is finished. What was taken follows the
-/// list of the feed by the definition, and a failed read is among it only where the folder's count of faults rose.
+/// list of the feed by the definition, a failed read is among it only where the folder's count of faults rose, and all hands are
+/// given back.
 pub fn take_serial<F: Folder>(
     alloc: Global,
     folder: &mut F,
@@ -32,6 +33,7 @@ pub fn take_serial<F: Folder>(
         → Follows (feed_list f (arc_value hours) window key) items.items) }
     ensures rose { IfOk result (λ items. Contains items.items Faulted
         → Rose (F.faults folder.old) (F.faults folder.new)) }
+    ensures hands { OnOk result (F.hands folder.new ≡ F.hands folder.old) }
     ensures files { F.files folder.new ≡ F.files folder.old }
     ensures grows { F.faults folder.old ≤ F.faults folder.new }
 {

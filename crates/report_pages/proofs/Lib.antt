@@ -1,3 +1,2 @@
 pub mod PrintedLemmas
-pub mod LineTexts
-pub mod Places
+pub mod WrittenLemmas

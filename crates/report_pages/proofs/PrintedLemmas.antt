@@ -1,7 +1,10 @@
 -- How what was printed adds up.
-use Rattle.std.proofs.Common.{◌≡◌, ℕ, ◌≤◌, List, [], ◌++◌, refl, sym, ap, ◌∙◌, take, drop, take-append-drop, append_assoc, append-nil, Option, Some, None, Result, Ok, Err, length}
-use Rattle.std.specs.Prelude.{option_map, OnErr, OnOk}
-use Rattle.report_pages.specs.Printed.{IsTaken, IsPrinted, IsFront}
+use Rattle.std.proofs.Common.{◌≡◌, ℕ, ◌≤◌, List, [], ◌++◌, refl, sym, ap, ◌∙◌, take, drop, take-append-drop, append_assoc, append-nil, Option, Some, None, Result, Ok, Err, length, ◌+◌, ◌-◌, ◌^◌, arith}
+use Rattle.std.specs.Prelude.{option_map, min, OnErr, OnOk, IfErr}
+use Rattle.lean_io.specs.Told.{Rose}
+use Rattle.report_pages.specs.declared.pages.Stop.{Stop}
+use Rattle.report_pages.specs.declared.pages.Stop.TheVariants.{NoMemory, WriteFault}
+use Rattle.report_pages.specs.Printed.{IsTaken, IsPrinted, IsFront, HasCause, HasRoom, Prints}
 
 pub IsTaken-nothing : (told : Option (List ℕ)) → IsTaken told told []
 IsTaken-nothing None = refl
@@ -67,3 +70,19 @@ on_err-map (Err e) P Q f h = f h
 pub on_ok : {A E : Type 0} (r : Result A E) (P : Type 0) → P → OnOk r P
 on_ok (Ok x) P h = h
 on_ok (Err e) P h = tt
+
+-- a cause of a later call is one of all of them
+pub cause-earlier : (before now later : ℕ) (stop : Stop) → before ≤ now → HasCause now later stop → HasCause before later stop
+cause-earlier before now later NoMemory grows cause = tt
+cause-earlier before now later WriteFault grows cause = rose before now later grows cause
+  where
+    rose : (before now later : ℕ) → before ≤ now → Rose now later → Rose before later
+    rose before now later grows r = (let h : min (now + 1) (2 ^ 64 - 1) ≤ later = r in omega (arith, h, grows))
+
+-- a line was put on a page, and the page was turned
+pub prints-line : {A S : Type 0} (told : S → Option (List ℕ)) (faults : S → ℕ) (old now : S) (page new line : List ℕ) (result : Result A Stop)
+    → OnOk result (IsPrinted (told old) (told now) (page ++ line) new []) → OnOk result (HasRoom new) → OnErr result (IsFront (told old) (told now) (page ++ line))
+    → IfErr result (HasCause (faults old) (faults now)) → faults old ≤ faults now → Prints told faults old now page new line result
+prints-line told faults old now page new line (Ok x) printed room front cause grows =
+    (record { written = printed.written; taken = printed.taken; rest = sym (append-nil (page ++ line)) ∙ printed.rest }, room, grows)
+prints-line told faults old now page new line (Err stop) printed room front cause grows = (front, cause, grows)

@@ -1,2 +1,4 @@
 pub mod Printed
 pub mod Lines
+pub mod Ended
+pub mod Written

@@ -23,6 +23,8 @@ abbrev pub end_line : ℕ → List ℕ
 end_line n = codes "end " ++ decimal n ++ codes " rows\n"
 
 -- the line that names a malformed line: the path of its file, its number, and the reason
+abbrev pub data_line_of : List ℕ → Bad → List ℕ
+data_line_of path bad = codes "data " ++ path ++ codes " line " ++ decimal bad.line ++ part (reason_text bad.reason) ++ 10 ∷ []
+
 unfoldable pub data_line : FeedKind → Bad → List ℕ
-data_line kind bad =
-    codes "data " ++ path_of kind bad.file ++ codes " line " ++ decimal bad.line ++ part (reason_text bad.reason) ++ 10 ∷ []
+data_line kind bad = data_line_of (path_of kind bad.file) bad

@@ -37,7 +37,8 @@ use Rattle.row_feed.specs.Judged.{judged, judged_bar, bar_given, coarse_given, K
 use Rattle.row_feed.specs.Steps.{StepsTo, StepGives, bad_item, resolution_of}
 use Rattle.row_feed.specs.ToCome.{given, equity_open, coarse_open, least_start, Behind, MayStart, StartsIn}
 use Rattle.row_feed.specs.Course.{hours_of, numbers_left, LeavesBars, LeavesCoarse, LeavesOf, CourseLeaves, SameFile}
-use Rattle.row_feed.proofs.RangeLemmas.{bar_in_range, row_in_range, past_last, not_before_last}
+use Rattle.clock_feeds.proofs.CutLemmas.{bar_in_range, row_in_range}
+use Rattle.row_feed.proofs.RangeLemmas.{past_last, not_before_last}
 use Rattle.row_feed.proofs.GivenLemmas.{given-bad, step_bar, step_coarse}
 use Rattle.row_feed.proofs.OpenLemmas.{equity-text, coarse-full, coarse-row, coarse-bad, coarse-skipped}
 

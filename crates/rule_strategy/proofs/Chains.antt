@@ -1,5 +1,4 @@
 -- Readings in a row: a fault of the first is a fault of all.
-use Rattle.std.proofs.Common.{◌≡◌}
 use Rattle.rule_strategy.specs.declared.fault.PlanFault.{PlanFault}
 use Rattle.rule_strategy.specs.declared.fault.PlanFault.TheVariants.{Toml, Missing, Unknown, Value, Limit, Rule, NoMemory}
 use Rattle.rule_strategy.specs.Answers.{Answer, ◌>>=◌, Fails}

@@ -1,17 +1,16 @@
 -- What a reading gives has a property: readings in a row, the rows of a table, and the kinds of values.
-use Rattle.std.proofs.Common.{◌≡◌, ℕ, zero, suc, ◌+◌, ◌-◌, ◌%◌, ◌≤◌, Bool, true, false, ◌&&◌, ◌==◌, nat_le, if◌then◌else◌, List, bytes_eq, length, Option, Some, None, IfSome, is_some, Ok, Err, IfOk, option_and_then, option_map, refl, ◌⊎◌, inl, inr, arith}
-use Rattle.std.proofs.lemmas.Bool.{cases_Bool, leb-true, eqb-true, and_parts}
+use Rattle.std.proofs.Common.{◌≡◌, ℕ, ◌%◌, ◌≤◌, Bool, true, false, ◌&&◌, ◌==◌, nat_le, List, bytes_eq, Option, Some, None, IfSome, is_some, Ok, Err, IfOk, option_and_then, option_map, refl, arith}
+use Rattle.std.proofs.lemmas.Bool.{leb-true, eqb-true, and_parts}
 use Rattle.std.specs.List.{list_any}
-use Rattle.toml.specs.Data.{Data, Items, no_items, Members, get_member, as_integer, as_str, as_array, as_table}
+use Rattle.toml.specs.Data.{Data, Items, Members, get_member, as_str, as_array}
 use Rattle.lean_fixed.specs.declared.resolution.Resolution.{Resolution}
 use Rattle.lean_fixed.specs.declared.resolution.Resolution.TheVariants.{Minute, Hour, Daily}
-use Rattle.lean_fixed.specs.Amount as fixed
 use Rattle.lean_fixed.specs.Calendar.{day_of_digits}
 use Rattle.lean_fixed.specs.Symbol.{is_symbol}
-use Rattle.rule_strategy.specs.Answers.{Answer, ◌>>=◌, pure}
+use Rattle.rule_strategy.specs.Answers.{Answer, ◌>>=◌}
 use Rattle.rule_strategy.specs.Tables.{or_missing, or_wrong, value_or, row, value_if, optional, length_of, if_few, items_if, array_row, none_or, none_row, text_if, text_row}
 use Rattle.rule_strategy.specs.Validity.{IsPeriod}
-use Rattle.rule_strategy.specs.Values.{within, natural, whole, amount, symbol_of, symbol, unless_among, new_symbol, window_day, period_of, period}
+use Rattle.rule_strategy.specs.Values.{within, whole, amount, symbol_of, symbol, unless_among, new_symbol, window_day, period_of, period}
 
 -- ---- readings in a row
 

@@ -1,5 +1,4 @@
 pub mod Chains
-pub mod Days
 pub mod Holds
 pub mod Lengths
 pub mod OnLiterals

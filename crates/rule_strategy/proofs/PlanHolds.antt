@@ -1,19 +1,13 @@
 -- A plan that was read is a valid one, part by part.
-use Rattle.std.proofs.Common.{◌≡◌, ◌≢◌, ℕ, zero, suc, ◌+◌, ◌-◌, ◌≤◌, ◌<◌, Bool, true, false, nat_le, nat_lt, ◌||◌, pos, ◌≤ℤ◌, ◌+ℤ◌, List, [], ◌∷◌, ◌++◌, map, length, All, bytes_eq, codes, Option, Some, None, IfSome, is_some, Result, Ok, Err, IfOk, refl, sym, ap, ◌∙◌, subst, arith, length-append}
+use Rattle.std.proofs.Common.{◌≡◌, ◌≢◌, ℕ, ◌+◌, ◌-◌, ◌≤◌, Bool, true, false, nat_le, nat_lt, pos, List, [], ◌∷◌, ◌++◌, length, All, bytes_eq, codes, Option, Some, None, IfSome, Result, Ok, Err, IfOk, refl, sym, ap, ◌∙◌, subst, arith, length-append}
 use Rattle.std.proofs.lemmas.Bool.{leb-true, ltb-false, or_parts, false≢true}
 use Rattle.std.proofs.lemmas.Int.{ints}
-use Rattle.std.proofs.lemmas.List.{map-append}
-use Rattle.std.proofs.lemmas.List.Elements.{All-nil, All-cons, All-push, All-head, All-tail}
+use Rattle.std.proofs.lemmas.List.Elements.{All-nil, All-push, All-head, All-tail}
 use Rattle.std.proofs.lemmas.Slice.Eq.{bytes_eq-Decides}
 use Rattle.std.specs.List.{list_any}
 use Rattle.toml.specs.Data.{Data, Items, no_items, item, Members, get_member, as_bool}
-use Rattle.lean_fixed.specs.declared.resolution.Resolution.{Resolution}
-use Rattle.lean_fixed.specs.declared.time.Window.{Window}
 use Rattle.lean_fixed.specs.Ranges.{IsWithin, IsStartingCash, IsLeverage}
-use Rattle.trade_costs.specs.declared.costs.Costs.{Costs}
 use Rattle.trade_costs.specs.Fees.{IsCosts}
-use Rattle.lean_orders.specs.declared.order.Kind.{Kind}
-use Rattle.universe_rules.specs.declared.rule.UniverseRule.{UniverseRule}
 use Rattle.rule_lang.specs.declared.fault.Want.{Want}
 use Rattle.rule_lang.specs.declared.fault.Want.TheVariants.{Truth, Number}
 use Rattle.rule_lang.specs.Tokens.{Fault}
@@ -24,7 +18,6 @@ use Rattle.rule_strategy.specs.declared.fault.Part.TheVariants as part
 use Rattle.rule_strategy.specs.declared.fault.PlanFault.{PlanFault}
 use Rattle.rule_strategy.specs.declared.plan.Plan.{Plan}
 use Rattle.rule_strategy.specs.declared.rule.Rule.{Rule}
-use Rattle.rule_strategy.specs.declared.rule.Action.{Action}
 use Rattle.rule_strategy.specs.declared.rule_texts.RuleTexts.{RuleTexts}
 use Rattle.rule_strategy.specs.declared.rule_texts.ActionTexts.{ActionTexts}
 use Rattle.rule_strategy.specs.declared.rule_texts.ActionTexts.TheVariants as texts
@@ -33,8 +26,7 @@ use Rattle.rule_strategy.specs.declared.rule_texts.Verb.TheVariants as verbs
 use Rattle.rule_strategy.specs.declared.security.Bars.{Bars}
 use Rattle.rule_strategy.specs.declared.security.Security.{Security}
 use Rattle.rule_strategy.specs.declared.settings.Settings.{Settings}
-use Rattle.rule_strategy.specs.declared.universe.UniversePlan.{UniversePlan}
-use Rattle.rule_strategy.specs.Answers.{Answer, ◌>>=◌, pure, Gives}
+use Rattle.rule_strategy.specs.Answers.{Answer, Gives}
 use Rattle.rule_strategy.specs.Values as kind
 use Rattle.rule_strategy.specs.Tables.{only, row, optional, table_of, length_of, array_row, text_row, text_if}
 use Rattle.rule_strategy.specs.Settings.{days, window, costs, settings}
@@ -44,7 +36,7 @@ use Rattle.rule_strategy.specs.RuleTexts.{rests_at_price, has_limit, order, upda
 use Rattle.rule_strategy.specs.Rules.{at_rule, expression, expression_if, action_of, rule_of, rules_from, rules}
 use Rattle.rule_strategy.specs.PlanFile.{top_keys, plan_of_table, table_in, plan_in, plan}
 use Rattle.rule_strategy.specs.Validity.{IsRun, IsPeriod, IsSecurity, AreDistinct, IsSelection, IsUniverse, IsUniverseIf, IsOf, IsNumberIf, IsAction, IsRule, IsPlan}
-use Rattle.rule_strategy.proofs.Holds.{Any, then_holds, any_holds, weaker, row_holds, optional_holds, AreFew, array_holds, IsThereIf, text_if_holds, InRange, whole_holds, amount_holds, window_day_holds, IsSymbolText, IsNew, new_symbol_holds, period_holds}
+use Rattle.rule_strategy.proofs.Holds.{Any, then_holds, any_holds, weaker, row_holds, optional_holds, AreFew, array_holds, IsThereIf, text_if_holds, InRange, whole_holds, amount_holds, window_day_holds, IsNew, new_symbol_holds, period_holds}
 
 signed : (least most n : ℕ) → InRange least most n → IsWithin (pos least) (pos most) (pos n)
 signed least most n h = (omega (arith, ints, h.0), omega (arith, ints, h.1))

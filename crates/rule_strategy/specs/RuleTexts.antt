@@ -1,6 +1,6 @@
 -- The rules of a file whose expressions are still texts. A key that a rule does not take is unknown at its place in the
 -- order of the keys.
-use Rattle.std.specs.Prelude.{ℕ, Bool, true, false, List, [], ◌∷◌, ◌++◌, codes, Option, None, Ok}
+use Rattle.std.specs.Prelude.{ℕ, Bool, true, false, List, [], ◌∷◌, ◌++◌, codes, None, Ok}
 use Rattle.toml.specs.Data.{Data, Items, no_items, item, Members}
 use Rattle.lean_orders.specs.declared.order.Kind.{Kind}
 use Rattle.lean_orders.specs.declared.order.Kind.TheVariants as kinds

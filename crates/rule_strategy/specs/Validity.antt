@@ -1,5 +1,5 @@
 -- What holds of every plan that was read. Each call that takes a plan or a rule asks for no more than this.
-use Rattle.std.specs.Prelude.{◌≡◌, ◌≢◌, ℕ, ◌+◌, ◌%◌, ◌≤◌, Bool, true, false, ◌≤ℤ◌, ◌+ℤ◌, pos, List, [], ◌∷◌, length, All, Option, Some, None}
+use Rattle.std.specs.Prelude.{◌≡◌, ◌≢◌, ℕ, ◌%◌, ◌≤◌, Bool, true, false, ◌≤ℤ◌, ◌+ℤ◌, pos, List, [], ◌∷◌, length, All, Option, Some, None}
 use Rattle.lean_fixed.specs.declared.resolution.Resolution.{Resolution}
 use Rattle.lean_fixed.specs.declared.resolution.Resolution.TheVariants.{Minute, Hour, Daily}
 use Rattle.lean_fixed.specs.declared.time.Window.{Window}

@@ -1,11 +1,11 @@
 -- The kinds of values. Each reads a value of a file: `None` where it is of another kind or out of its range.
-use Rattle.std.specs.Prelude.{ℕ, ◌%◌, Bool, ◌&&◌, ◌==◌, nat_le, if◌then◌else◌, ℤ, pos, negsuc, List, bytes_eq, codes, Option, Some, None, option_and_then}
+use Rattle.std.specs.Prelude.{ℕ, ◌%◌, ◌&&◌, ◌==◌, nat_le, if◌then◌else◌, ℤ, pos, negsuc, List, bytes_eq, codes, Option, Some, None, option_and_then}
 use Rattle.std.specs.List.{list_any}
 use Rattle.toml.specs.Data.{Data, as_integer, as_str}
 use Rattle.lean_fixed.specs.declared.resolution.Resolution.{Resolution}
 use Rattle.lean_fixed.specs.declared.resolution.Resolution.TheVariants.{Minute, Hour, Daily}
 use Rattle.lean_fixed.specs.Amount as fixed
-use Rattle.lean_fixed.specs.Calendar.{last_day, day_of_digits}
+use Rattle.lean_fixed.specs.Calendar.{day_of_digits}
 use Rattle.lean_fixed.specs.Symbol.{is_symbol}
 use Rattle.lean_orders.specs.declared.order.Kind.{Kind}
 use Rattle.lean_orders.specs.declared.order.Kind.TheVariants.{Market, Limit, Stop, AtOpen, StopLimit}

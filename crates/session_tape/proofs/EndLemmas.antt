@@ -11,7 +11,7 @@ use Rattle.clock_steps.proofs.RunLemmas.{run-front}
 use Rattle.report_pages.specs.Lines.{end_line}
 use Rattle.report_pages.specs.Printed.{IsFront}
 use Rattle.report_pages.proofs.PrintedLemmas.{IsFront-behind, IsFront-more, IsFront-printed}
-use Rattle.session_tape.specs.declared.ending.Ended.{Ended}
+use Rattle.report_pages.specs.declared.ended.Ended.{Ended}
 use Rattle.session_tape.specs.declared.ending.Ending.{Ending}
 use Rattle.session_tape.specs.declared.ending.Ending.TheVariants.{Whole, Refused, Faulted}
 use Rattle.session_tape.specs.Reports.{HasFile, IsReportFront, IsLast}

@@ -1,8 +1,8 @@
 -- The first heads of the feeds, one feed after another.
 use Rattle.std.proofs.Common.{◌≡◌, ℕ, zero, suc, ◌+◌, ◌<◌, ◌≤◌, ◌⊎◌, Bool, true, false, cond, eqb, ℤ, pos, List, [], ◌∷◌, ◌++◌, length, Option, Some, None, refl, sym, ap, ◌∙◌, subst, arith, inl, inr}
-use Rattle.std.specs.Prelude.{◌≢◌, not, option_map, int_lt, nat_lt, Ok}
+use Rattle.std.specs.Prelude.{◌≢◌, not, option_map, nat_lt, Ok}
 use Rattle.std.specs.List.{All}
-use Rattle.std.proofs.lemmas.Bool.{true≢false, and_parts}
+use Rattle.std.proofs.lemmas.Bool.{true≢false}
 use Rattle.std.proofs.lemmas.Bool.Decides.{eqb_tells}
 use Rattle.std.proofs.lemmas.List.Elements.{All-nil, All-cons, All-head, All-tail, All-weaker, All-append, Contains-push}
 use Rattle.std.proofs.lemmas.List.{map-append}
@@ -17,11 +17,11 @@ use Rattle.lean_items.specs.declared.feed_key.FeedKey.{FeedKey}
 use Rattle.lean_items.specs.declared.feed_no.FeedNo.{FeedNo}
 use Rattle.lean_items.specs.declared.item.Item.{Item}
 use Rattle.lean_items.specs.declared.item.Item.TheVariants.{Bar, Coarse, Bad, Faulted, End}
-use Rattle.lean_items.specs.Fits.{fits, is_bar_in_range, Rises}
+use Rattle.lean_items.specs.Fits.{fits, Rises}
 use Rattle.lean_items.specs.Given.{end_of, is_last, IsRow}
 use Rattle.lean_items.specs.Taken.{Start, Feeds, Taken, Follows, AllFollow, added_to, more}
 use Rattle.exchange_hours.specs.Entries.{Entries}
-use Rattle.frontier_sync.specs.Heads.{arrival, put, ends_past, EndsFrom, AreOpen}
+use Rattle.frontier_sync.specs.Heads.{arrival, put, fits_first, EndsFrom, AreOpen}
 use Rattle.frontier_sync.specs.Slices.{taken_one, TakesOfOne}
 use Rattle.frontier_sync.specs.Stands.{HeadsStand, IsTaken, AtHead, is_coarse, AreBars}
 use Rattle.frontier_sync.proofs.FirstLemmas.{past-from}
@@ -83,7 +83,7 @@ open_more before added now feed item heads numbered are_open adds takes =
         (λ row. there a.feed.0 (All-head (λ x. x.feed.0 < feed.0) a hs few) (All-head (λ x. IsRow x.item → before x.feed.0 ≡ true) a hs all row))
         (old hs (All-tail (λ x. x.feed.0 < feed.0) a hs few) (All-tail (λ x. IsRow x.item → before x.feed.0 ≡ true) a hs all))
 
-pub later_more : (start : ℕ) (feed : FeedNo) (item : Item) (heads : List Arrival) → ends_past (pos start) item ≡ true → AllFrom (start + 1) heads → AllFrom (start + 1) (heads ++ arrival feed item ∷ [])
+pub later_more : (start : ℕ) (feed : FeedNo) (item : Item) (heads : List Arrival) → fits_first (pos start) item ≡ true → AllFrom (start + 1) heads → AllFrom (start + 1) (heads ++ arrival feed item ∷ [])
 later_more start feed item heads past all =
     All-append (λ a. EndsFrom (pos (start + 1)) (end_of a.item)) heads (arrival feed item ∷ []) all
     (All-cons (λ a. EndsFrom (pos (start + 1)) (end_of a.item)) (arrival feed item) [] (past-from (pos start) item past) (All-nil (λ a. EndsFrom (pos (start + 1)) (end_of a.item))))
@@ -113,27 +113,27 @@ opened_other feeds key feed items n other = other_at (eqb n feed.0) (feeds n) ke
 
 -- ---- nothing is passed over before the first head
 
-past_fits : (start : ℤ) (item : Item) → fits start item ≡ true → is_coarse item ≡ false → ends_past start item ≡ true
-past_fits start (Bar bar) h bars = (and_parts (int_lt start bar.end.0) (is_bar_in_range bar) h).0
+past_fits : (start : ℤ) (item : Item) → fits start item ≡ true → is_coarse item ≡ false → fits_first start item ≡ true
+past_fits start (Bar bar) h bars = h
 past_fits start (Coarse at row) h bars = absurd (true≢false bars)
 past_fits start (Bad bad) h bars = refl
 past_fits start Faulted h bars = refl
 past_fits start End h bars = refl
 
-first_of : (start : ℤ) (list : List Item) (p : Item) (rest : List Item) → Rises start list → AreBars list → list ≡ p ∷ rest → ends_past start p ≡ true
+first_of : (start : ℤ) (list : List Item) (p : Item) (rest : List Item) → Rises start list → AreBars list → list ≡ p ∷ rest → fits_first start p ≡ true
 first_of start list p rest rises bars e =
     let r : Rises start (p ∷ rest) = subst (Rises start) e rises in
     let b : AreBars (p ∷ rest) = subst AreBars e bars in
     past_fits start p r.0 (All-head (λ x. is_coarse x ≡ false) p rest b)
 
 pub none_passed : (start : ℤ) (list passed : List Item) (item : Item) → Rises start list → AreBars list → Follows list (passed ++ item ∷ [])
-    → All (λ x. ends_past start x ≡ false) passed → passed ≡ []
+    → All (λ x. fits_first start x ≡ false) passed → passed ≡ []
 none_passed start list [] item rises bars follows before = refl
 none_passed start list (p ∷ passed) item rises bars (inl (rest, is)) before =
-    absurd (true≢false (sym (first_of start list p ((passed ++ item ∷ []) ++ rest) rises bars is) ∙ All-head (λ x. ends_past start x ≡ false) p passed before))
+    absurd (true≢false (sym (first_of start list p ((passed ++ item ∷ []) ++ rest) rises bars is) ∙ All-head (λ x. fits_first start x ≡ false) p passed before))
 none_passed start list (p ∷ passed) item rises bars (inr ([], rest, is, list_is, all)) before =
     let fault : p ≡ Faulted = ap (head_or p) is in
-    absurd (true≢false (sym (ap (ends_past start) fault) ∙ All-head (λ x. ends_past start x ≡ false) p passed before))
+    absurd (true≢false (sym (ap (fits_first start) fault) ∙ All-head (λ x. fits_first start x ≡ false) p passed before))
   where
     head_or : Item → List Item → Item
     head_or d [] = d
@@ -141,7 +141,7 @@ none_passed start list (p ∷ passed) item rises bars (inr ([], rest, is, list_i
 none_passed start list (p ∷ passed) item rises bars (inr (r ∷ rows, rest, is, list_is, all)) before =
     let same : p ≡ r = ap (head_or p) is in
     let ends = first_of start list r (rows ++ rest) rises bars list_is in
-    absurd (true≢false (sym ends ∙ ap (ends_past start) (sym same) ∙ All-head (λ x. ends_past start x ≡ false) p passed before))
+    absurd (true≢false (sym ends ∙ ap (fits_first start) (sym same) ∙ All-head (λ x. fits_first start x ≡ false) p passed before))
   where
     head_or : Item → List Item → Item
     head_or d [] = d
@@ -165,7 +165,7 @@ module _ (resolution : Resolution) (window : Window) where
   pub opened_more : (is_window : IsWindow window) (old added new : Start → Feeds → Type 0) (before : Start) (heads : List Arrival) (symbols : List (List ℕ)) (symbol : List ℕ) (feed : FeedNo)
       (passed : List Item) (item : Item) → Opened old before heads symbols
       → ((b : Start) (feeds : Feeds) → old b feeds → added b (added_to feeds (session_key resolution window symbol) (Ok feed)))
-      → TakesOfOne added new feed.0 (passed ++ item ∷ []) → All (λ x. ends_past (pos first) x ≡ false) passed → ends_past (pos first) item ≡ true
+      → TakesOfOne added new feed.0 (passed ++ item ∷ []) → All (λ x. fits_first (pos first) x ≡ false) passed → fits_first (pos first) item ≡ true
       → feed.0 ≡ length symbols → AreNumbered (length symbols) heads → Opened new before (heads ++ arrival feed item ∷ []) (symbols ++ symbol ∷ [])
   opened_more is_window old added new before heads symbols symbol feed passed item o adds takes none past number numbered =
       let key = session_key resolution window symbol in

@@ -1,23 +1,19 @@
 -- What a session tape has printed when it ends.
-use Rattle.std.specs.Prelude.{◌≡◌, ℕ, ◌≤◌, List, [], Option, Some, None}
+use Rattle.std.specs.Prelude.{◌≡◌, ℕ, ◌≤◌, List, [], Option}
 use Rattle.lean_fixed.specs.Calendar.{last_day}
 use Rattle.lean_fixed.specs.declared.resolution.Resolution.{Resolution}
 use Rattle.lean_fixed.specs.declared.time.Window.{Window}
 use Rattle.clock_feeds.specs.Slices.{Source}
 use Rattle.lean_items.specs.declared.feed_key.FeedKind.TheVariants.{Equity}
+use Rattle.report_pages.specs.Ended.{ended_by}
 use Rattle.report_pages.specs.Lines.{end_line, data_line}
 use Rattle.report_pages.specs.Printed.{IsTaken, IsFront}
-use Rattle.session_tape.specs.declared.ending.Ended.{Ended}
-use Rattle.session_tape.specs.declared.ending.Ended.TheVariants.{Done, BadRow, ReadFault}
+use Rattle.report_pages.specs.declared.ended.Ended.{Ended}
+use Rattle.report_pages.specs.declared.ended.Ended.TheVariants.{Done, BadRow, ReadFault}
 use Rattle.session_tape.specs.declared.ending.Ending.{Ending}
 use Rattle.session_tape.specs.declared.ending.Ending.TheVariants.{Whole, Refused, Faulted}
-use Rattle.session_tape.specs.Session.{SessionBar, Refusal, session, session_text, session_bytes}
+use Rattle.session_tape.specs.Session.{SessionBar, session, session_text, session_bytes}
 use Rattle.session_tape.specs.Whole.{IsWhole}
-
--- how a whole tape ends
-abbrev pub ended_by : Option Refusal → Ended
-ended_by None = Done
-ended_by (Some refusal) = BadRow
 
 -- What the sink took of a tape that ended by itself: all of it, or after a failed read the bars of whole minutes.
 abbrev pub IsReport : Resolution → Window → List (List ℕ × Source) → Option (List ℕ) → Option (List ℕ) → Ended → Type 0

@@ -11,14 +11,3 @@ pub enum Ending {
     /// A read failed.
     Faulted,
 }
-
-/// How a session tape ended.
-#[derive(Clone, Copy, Debug, PartialEq, Eq)]
-pub enum Ended {
-    /// It is whole.
-    Done,
-    /// It names a malformed line.
-    BadRow,
-    /// A read failed; the bars of whole minutes were printed.
-    ReadFault,
-}

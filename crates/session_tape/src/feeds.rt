@@ -11,6 +11,7 @@ ghost use Rattle.lean_items.specs.Taken.{Start, Feeds, AllFollow, no_feeds};
 ghost use Rattle.exchange_hours.specs.Entries.{Entries};
 ghost use Rattle.frontier_sync.specs.Heads.{AreOpen, EndsFrom};
 ghost use Rattle.frontier_sync.specs.Stands.{IsTaken, HeadsStand};
+ghost use Rattle.frontier_sync.specs.Stays.{Stays};
 ghost use Rattle.session_tape.specs.Session.{session_key};
 ghost use Rattle.session_tape.specs.Walked.{keys_of, AreFeeds};
 
@@ -35,15 +36,12 @@ pub(crate) fn open_feeds<P: Pool>(
     ensures opened { OnOk result (AreOpen (P.is_open pool.new) heads.new) }
     ensures numbered { OnOk result (All (λ a. a.feed.0 < length symbols.now) heads.new) }
     ensures later { OnOk result (All (λ a. EndsFrom (pos (first_moment window + 1)) (end_of a.item)) heads.new) }
-    ensures stands { (before : Start) → P.stands pool.old before no_feeds
-        → (feeds : Feeds) × P.stands pool.new before feeds
+    ensures stands { (start : Start) → P.stands pool.old start no_feeds
+        → (feeds : Feeds) × P.stands pool.new start feeds
         × OnOk result (All (IsTaken feeds) heads.new
         × ((lists : Key → List GivenItem) (f : Files) (hours : Entries) → AreFeeds lists f hours window
         → AllFollow lists feeds → HeadsStand (pos (first_moment window + 1)) feeds 0 heads.new (keys_of resolution window symbols.now))) }
-    ensures files { P.files pool.new ≡ P.files pool.old }
-    ensures lists { P.lists pool.new ≡ P.lists pool.old }
-    ensures grows { P.faults pool.old ≤ P.faults pool.new }
-    ensures place { P.place pool.new ≡ P.place pool.old }
+    ensures stays { Stays P.files P.lists P.faults P.place pool.old pool.new }
 {
     'symbols: for place in 0..symbols.len() {
         let feed = pool.add(alloc, key_of(resolution, window, &symbols[place]))?;

@@ -11,5 +11,4 @@ mod printing;
 mod tape;
 mod walk;
 
-pub use ending::Ended;
 pub use tape::print_session;

@@ -1,45 +1,43 @@
 //! The lines of the bars that end at a minute.
-ghost use Rattle.std.specs.Prelude.{◌≡◌, ℕ, ◌+◌, ◌≤◌, ◌++◌, pos, true, length, option_to_list, unsigned_abs, IfOk, OnOk, OnErr, IfErr};
+ghost use Rattle.std.specs.Prelude.{◌≡◌, ℕ, ◌+◌, ◌≤◌, pos, true, length, option_to_list, unsigned_abs, IfOk};
 ghost use Rattle.std.specs.List.{All};
 ghost use Rattle.lean_fixed.specs.Printed.{moment_text};
 ghost use Rattle.lean_fixed.specs.Ranges.{last_printed_moment};
 ghost use Rattle.frontier_sync.specs.Slices.{ends_at};
-ghost use Rattle.report_pages.specs.Printed.{IsPrinted, IsFront, HasCause, HasRoom};
+ghost use Rattle.report_pages.specs.Printed.{HasRoom, Prints};
 ghost use Rattle.session_tape.specs.Session.{bar_trades, session_line, session_text};
 ghost use Rattle.session_tape.specs.Shown.{shown_one, shown};
 
 use lean_fixed::laws::moment_reads_back;
-use lean_fixed::{Moment, NoMemory, Symbol, moment_text};
+use lean_fixed::writing::put_moment;
+use lean_fixed::{Moment, Symbol};
 use lean_io::Sink;
 use lean_items::{Arrival, Bar, Item};
-use report_pages::{Stop, Trades, append_row, turn_page};
+use report_pages::{Page, Stop, Trades, print_row};
 
-// Prints the bars among the items that end at a minute, and says how many there were. `front` is only room for a text.
+// Prints the bars among the items that end at a minute, and says how many there were.
 pub(crate) fn print_slice<S: Sink>(
     at: u32,
     symbols: &[Symbol],
     slice: &[Arrival],
-    front: &mut Vec<u8>,
-    page: &mut Vec<u8>,
+    page: &mut Page,
     out: &mut S,
 ) -> Result<u64, Stop>
     requires at { at ≤ last_printed_moment }
     requires ends { All (λ a. ends_at (pos at) a.item ≡ true) slice.now }
-    requires room { HasRoom page.old.items }
+    requires room { HasRoom page.old }
     ensures counted { IfOk result (λ rows. rows ≡ length (shown symbols.now slice.now)) }
-    ensures room { OnOk result (HasRoom page.new.items) }
-    ensures printed { OnOk result (IsPrinted (S.told out.old) (S.told out.new)
-        page.old.items page.new.items (session_text (shown symbols.now slice.now))) }
-    ensures front { OnErr result (IsFront (S.told out.old) (S.told out.new)
-        (page.old.items ++ session_text (shown symbols.now slice.now))) }
-    ensures cause { IfErr result (HasCause (S.faults out.old) (S.faults out.new)) }
-    ensures grows { S.faults out.old ≤ S.faults out.new }
+    ensures prints { Prints S.told S.faults out.old out.new page.old page.new
+        (session_text (shown symbols.now slice.now)) result }
 {
-    front.clear();
-    moment_text(Moment(at as i64), front)?;
+    let mut front = [0; 14];
+    put_moment(Moment(at as i64), &mut front, 0);
     let mut rows: u64 = 0;
     'items: for place in 0..slice.len() {
-        rows += print_one(front, symbols, &slice[place], page, out)?;
+        match print_one(&front, symbols, &slice[place], page, out) {
+            Ok(printed) => rows += printed,
+            Err(stop) => return Err(stop),
+        }
     }
     Ok(rows)
 }
@@ -49,21 +47,16 @@ fn print_one<S: Sink>(
     front: &[u8],
     symbols: &[Symbol],
     arrival: &Arrival,
-    page: &mut Vec<u8>,
+    page: &mut Page,
     out: &mut S,
 ) -> Result<u64, Stop>
     requires front { (at : ℕ) × (front.now ≡ moment_text at) × (ends_at (pos at) arrival.now.item ≡ true) }
-    requires room { HasRoom page.old.items }
+    requires room { HasRoom page.old }
     ensures counted { IfOk result
         (λ rows. rows ≡ length (option_to_list (shown_one symbols.now arrival.now))) }
     ensures few { IfOk result (λ rows. rows ≤ 1) }
-    ensures room { OnOk result (HasRoom page.new.items) }
-    ensures printed { OnOk result (IsPrinted (S.told out.old) (S.told out.new) page.old.items
-        page.new.items (session_text (option_to_list (shown_one symbols.now arrival.now)))) }
-    ensures front { OnErr result (IsFront (S.told out.old) (S.told out.new)
-        (page.old.items ++ session_text (option_to_list (shown_one symbols.now arrival.now)))) }
-    ensures cause { IfErr result (HasCause (S.faults out.old) (S.faults out.new)) }
-    ensures grows { S.faults out.old ≤ S.faults out.new }
+    ensures prints { Prints S.told S.faults out.old out.new page.old page.new
+        (session_text (option_to_list (shown_one symbols.now arrival.now))) result }
 {
     match arrival.item {
         Item::Bar(bar) => match symbols.get(arrival.feed.0 as usize) {
@@ -85,22 +78,16 @@ fn print_bar<S: Sink>(
     front: &[u8],
     symbol: &Symbol,
     bar: &Bar,
-    page: &mut Vec<u8>,
+    page: &mut Page,
     out: &mut S,
 ) -> Result<(), Stop>
     requires front { front.now ≡ moment_text (unsigned_abs bar.now.end.0) }
-    requires room { HasRoom page.old.items }
-    ensures room { OnOk result (HasRoom page.new.items) }
-    ensures printed { OnOk result (IsPrinted (S.told out.old) (S.told out.new)
-        page.old.items page.new.items (session_line (symbol.now, bar.now))) }
-    ensures front { OnErr result (IsFront (S.told out.old) (S.told out.new)
-        (page.old.items ++ session_line (symbol.now, bar.now))) }
-    ensures cause { IfErr result (HasCause (S.faults out.old) (S.faults out.new)) }
-    ensures grows { S.faults out.old ≤ S.faults out.new }
+    requires room { HasRoom page.old }
+    ensures prints { Prints S.told S.faults out.old out.new page.old page.new
+        (session_line (symbol.now, bar.now)) result }
 {
     moment_reads_back();
-    append_row(front, symbol, &trades_of(bar), page)?;
-    turn_page(page, out)
+    print_row(front, symbol, &trades_of(bar), page, out)
 }
 
 fn trades_of(bar: &Bar) -> Trades

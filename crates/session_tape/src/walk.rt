@@ -1,5 +1,5 @@
 //! From one end to the next.
-ghost use Rattle.std.specs.Prelude.{◌≡◌, ℕ, ◌+◌, ◌≤◌, ◌<◌, pos, true, List, length, IfErr};
+ghost use Rattle.std.specs.Prelude.{◌≡◌, ℕ, ◌+◌, ◌≤◌, ◌<◌, pos, true, List, length, IfErr, OnOk};
 ghost use Rattle.std.specs.List.{All};
 ghost use Rattle.lean_fixed.specs.Moments.{first_moment, last_moment};
 ghost use Rattle.lean_fixed.specs.Ranges.{IsWindow};
@@ -11,6 +11,7 @@ ghost use Rattle.lean_items.specs.Taken.{Start, Feeds, AllFollow};
 ghost use Rattle.exchange_hours.specs.Entries.{Entries};
 ghost use Rattle.frontier_sync.specs.Heads.{AreOpen, EndsFrom, stops};
 ghost use Rattle.frontier_sync.specs.Stands.{IsTaken, HeadsStand};
+ghost use Rattle.frontier_sync.specs.Stays.{Stays};
 ghost use Rattle.report_pages.specs.Printed.{HasCause, HasRoom};
 ghost use Rattle.session_tape.specs.Session.{session_sources};
 ghost use Rattle.session_tape.specs.Walked.{keys_of, AreFeeds, HasFaulted, HasWalked, IfFaulted, IsEnding};
@@ -22,7 +23,7 @@ use frontier_sync::Heads;
 use lean_fixed::{NoMemory, Resolution, Symbol, Window};
 use lean_io::Sink;
 use lean_items::{Arrival, Item, Pool};
-use report_pages::Stop;
+use report_pages::{Page, Stop};
 use std::alloc::Global;
 
 // Prints the bars of the feeds whose first heads these are, minute by minute, until a head stops the walk or none ends in the
@@ -34,7 +35,7 @@ pub(crate) fn walk<P: Pool, S: Sink>(
     resolution: Resolution,
     window: Window,
     symbols: &[Symbol],
-    page: &mut Vec<u8>,
+    page: &mut Page,
     out: &mut S,
 ) -> Result<Ending, Stop>
     requires opened { AreOpen (P.is_open pool.old) heads.old }
@@ -43,26 +44,23 @@ pub(crate) fn walk<P: Pool, S: Sink>(
     requires window { IsWindow window }
     requires order { first_moment window ≤ last_moment window }
     requires few { length symbols.now ≤ 64 }
-    requires room { HasRoom page.old.items }
-    ensures stands { (before : Start) (feeds : Feeds) → P.stands pool.old before feeds
+    requires room { HasRoom page.old }
+    ensures stands { (start : Start) (feeds : Feeds) → P.stands pool.old start feeds
         → All (IsTaken feeds) heads.old
-        → (now : Feeds) × P.stands pool.new before now
+        → (now : Feeds) × P.stands pool.new start now
         × IfFaulted result (HasFaulted now)
         × ((lists : Key → List GivenItem) → AllFollow lists now → AllFollow lists feeds)
         × ((lists : Key → List GivenItem) (f : Files) (hours : Entries) → AreFeeds lists f hours window
         → AllFollow lists now
         → HeadsStand (pos (first_moment window + 1)) feeds 0 heads.old (keys_of resolution window symbols.now)
         → HasWalked (session_sources f hours resolution window symbols.now) window
-        (S.told out.old) (S.told out.new) page.old.items page.new.items result) }
+        (S.told out.old) (S.told out.new) page.old page.new result) }
+    ensures room { OnOk result (HasRoom page.new) }
     ensures cause { IfErr result (HasCause (S.faults out.old) (S.faults out.new)) }
     ensures sink_grows { S.faults out.old ≤ S.faults out.new }
-    ensures files { P.files pool.new ≡ P.files pool.old }
-    ensures lists { P.lists pool.new ≡ P.lists pool.old }
-    ensures grows { P.faults pool.old ≤ P.faults pool.new }
-    ensures place { P.place pool.new ≡ P.place pool.old }
+    ensures stays { Stays P.files P.lists P.faults P.place pool.old pool.new }
 {
     let mut slice = Vec::new(alloc);
-    let mut front = Vec::new(alloc);
     let mut rows: u64 = 0;
     // Up to this minute all is printed. Only the invariant and the measure of the loop read it.
     let mut at = first_minute(window);
@@ -78,7 +76,7 @@ pub(crate) fn walk<P: Pool, S: Sink>(
                     Ok(()) => {}
                     Err(NoMemory) => return Err(Stop::NoMemory),
                 }
-                match print_slice(next, symbols, &slice, &mut front, page, out) {
+                match print_slice(next, symbols, &slice, page, out) {
                     Ok(printed) => rows = rows.saturating_add(printed),
                     Err(stop) => return Err(stop),
                 }

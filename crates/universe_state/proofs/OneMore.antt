@@ -1,37 +1,17 @@
 -- The additions of a choice, with one symbol more.
-use Rattle.std.proofs.Common.{◌≡◌, ℕ, ◌+◌, ◌<◌, Bool, true, false, cond, not, ◌&&◌, ◌||◌, List, [], ◌∷◌, ◌++◌, length, take, get_or, refl, sym, ap, ◌∙◌, inl, inr}
+use Rattle.std.proofs.Common.{◌≡◌, ℕ, ◌+◌, ◌<◌, Bool, true, false, cond, not, ◌&&◌, ◌||◌, List, [], ◌∷◌, ◌++◌, length, take, get_or, refl, sym, ap, ◌∙◌}
 use Rattle.std.specs.List.{filter}
 use Rattle.std.specs.Cmp.Lexicographic.{bytes_decides}
-use Rattle.std.proofs.lemmas.Bool.{cases_Bool, and_right, true≢false, false≢true}
+use Rattle.std.proofs.lemmas.Bool.{and_right, true≢false}
 use Rattle.std.proofs.lemmas.List.{take_more}
 use Rattle.std.proofs.lemmas.List.Elements.{filter-append}
+use Rattle.std.proofs.lemmas.Map.Views.{any-filter_same}
 use Rattle.universe_state.specs.Active.{Active, is_same, is_active}
 use Rattle.universe_state.specs.Choice.{is_selected, each_once, additions}
 
-has_cond : (s t : List ℕ) (b : Bool) (rest : List (List ℕ)) → is_selected (cond b (t ∷ rest) rest) s ≡ ((b && is_same t s) || is_selected rest s)
-has_cond s t true rest = refl
-has_cond s t false rest = refl
-
-hit : (a e m n : Bool) → e ≡ true → m ≡ (a && n) → ((a && e) || m) ≡ (a && (e || n))
-hit true true m n t i = refl
-hit true false m n t i = absurd (false≢true t)
-hit false e m n t i = i
-
-miss : (a b e m n : Bool) → e ≡ false → m ≡ (b && n) → ((a && e) || m) ≡ (b && (e || n))
-miss a b true m n f i = absurd (true≢false f)
-miss true b false m n f i = i
-miss false b false m n f i = i
-
 -- a symbol stands in a filtered list where it passes and stood there
 has_filter : (s : List ℕ) (q : List ℕ → Bool) (ts : List (List ℕ)) → is_selected (filter q ts) s ≡ (q s && is_selected ts s)
-has_filter s q [] = sym (and_right (q s) false refl)
-has_filter s q (t ∷ ts) =
-    has_cond s t (q t) (filter q ts)
-    ∙ (elim (cases_Bool (is_same t s)) [
-      | inl same ↦ ap (λ a. (a && is_same t s) || is_selected (filter q ts) s) (ap q ((bytes_decides t s).0 same))
-          ∙ hit (q s) (is_same t s) (is_selected (filter q ts) s) (is_selected ts s) same (has_filter s q ts)
-      | inr other ↦ miss (q t) (q s) (is_same t s) (is_selected (filter q ts) s) (is_selected ts s) other (has_filter s q ts)
-    ])
+has_filter s q ts = any-filter_same (λ t. is_same t s) q (q s) (λ t same. ap q ((bytes_decides t s).0 same)) ts
 
 once : (e d m n : Bool) → d ≡ e → m ≡ n → (e || (not d && m)) ≡ (e || n)
 once true d m n s i = refl

@@ -6,7 +6,7 @@ use Rattle.clock_feeds.proofs.OnGridLemmas.{feed_on_grid, in_period, apart, behi
 use Rattle.clock_feeds.proofs.laws.bars_are_on_grid.Goals as goal
 
 pub returns-clause-grid : goal.returns-clause-grid
-returns-clause-grid c = λ files hours window key symbol resolution t bar every is_window kind is. feed_on_grid files hours window key symbol resolution t bar is
+returns-clause-grid c = feed_on_grid
 
 pub returns-clause-period : goal.returns-clause-period
 returns-clause-period c = in_period
@@ -16,6 +16,6 @@ returns-clause-apart c = apart
 
 pub returns-clause-before : goal.returns-clause-before
 returns-clause-before c =
-    λ files hours window key symbol resolution before t bar every is_window kind low is.
+    λ files hours window key symbol resolution before t bar every kind low is.
     subst (λ k. EndBy (start_of bar) (feed_bars_of files hours window key k before)) (sym kind)
     (behind_all files hours window key symbol resolution before t bar every low is)

@@ -1,4 +1,4 @@
-use Rattle.clock_feeds.proofs.StandLemmas.{past, next_only, last_only, not_blocked, blocked_last}
+use Rattle.clock_feeds.proofs.StandLemmas.{past, next_only, last_only, not_blocked, not_known, blocked_last}
 use Rattle.clock_feeds.proofs.laws.standing_lists.Goals as goal
 
 pub returns-clause-past : goal.returns-clause-past
@@ -15,3 +15,6 @@ returns-clause-open c = not_blocked
 
 pub returns-clause-closed : goal.returns-clause-closed
 returns-clause-closed c = blocked_last
+
+pub returns-clause-waits : goal.returns-clause-waits
+returns-clause-waits c = not_known

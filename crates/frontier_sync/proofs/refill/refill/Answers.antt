@@ -1,7 +1,7 @@
-use Rattle.std.proofs.Common.{◌≡◌, true, false, [], ◌∷◌, ◌++◌, map, refl, sym, ap, ◌∙◌, arith, append-nil}
+use Rattle.std.proofs.Common.{◌≡◌, true, false, [], ◌∷◌, ◌++◌, map, refl, sym, ap, ◌∙◌, append-nil}
 use Rattle.frontier_sync.specs.Heads.{arrival}
 use Rattle.frontier_sync.specs.Slices.{ends_at}
-use Rattle.frontier_sync.proofs.TakenLemmas.{takes-none, takes-more}
+use Rattle.frontier_sync.proofs.TakenLemmas.{stays-none, stays-more, takes-none, takes-more}
 use Rattle.frontier_sync.proofs.RefillLemmas.{sofar-none, sofar-more, sofar-end, open-next, open-others, given-more}
 use Rattle.frontier_sync.proofs.refill.refill.Goals as goal
 
@@ -18,17 +18,14 @@ items-init g c = record {
   opened = c.requires.opened;
   others = λ n other. refl;
   added = refl;
-  files = refl;
-  lists = refl;
-  grows = omega arith;
-  place = refl;
+  stays = stays-none g.P.Pool.files g.P.Pool.lists g.P.Pool.faults g.P.Pool.place c.args.pool.now;
 }
 
 pub items-preserved : goal.items-preserved
 items-preserved g c =
     let inv = c.items.invariant in
     let (taken, given, sofar, out, stands) = inv.took in
-    let next = c.take_next-head in
+    let next = c.take_fitting-head in
     let (passed, misfits, takes) = next.ensures.took in
     let first = c.args.pool.now in
     let now = c.items.pool in
@@ -46,10 +43,7 @@ items-preserved g c =
       opened = open-next (g.P.Pool.is_open now) (g.P.Pool.is_open next.new.pool) feed.0 next.result next.ensures.opened;
       others = open-others (g.P.Pool.is_open first) (g.P.Pool.is_open now) (g.P.Pool.is_open next.new.pool) feed.0 next.result inv.others next.ensures.opened;
       added = next.ensures.added ∙ inv.added;
-      files = next.ensures.files ∙ inv.files;
-      lists = next.ensures.lists ∙ inv.lists;
-      grows = omega (arith, next.ensures.grows, inv.grows);
-      place = next.ensures.place ∙ inv.place;
+      stays = stays-more g.P.Pool.files g.P.Pool.lists g.P.Pool.faults g.P.Pool.place first now next.new.pool inv.stays next.ensures.stays;
     }
 
 pub returns-clause-took : goal.returns-clause-took

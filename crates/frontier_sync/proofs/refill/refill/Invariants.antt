@@ -1,9 +1,10 @@
 -- What was taken of the feed, and what was given.
-use Rattle.std.proofs.Common.{◌≡◌, ◌≢◌, ℕ, ◌+◌, ◌≤◌, true, cond, List, ◌++◌, map}
+use Rattle.std.proofs.Common.{◌≡◌, ◌≢◌, ℕ, ◌+◌, true, cond, List, ◌++◌, map}
 use Rattle.lean_items.specs.declared.item.Item.{Item}
 use Rattle.lean_items.specs.Given.{is_last, IsRow}
 use Rattle.frontier_sync.specs.Heads.{arrival}
 use Rattle.frontier_sync.specs.Slices.{TakesOfOne}
+use Rattle.frontier_sync.specs.Stays.{Stays}
 use Rattle.frontier_sync.proofs.RefillLemmas.{Sofar}
 use Rattle.frontier_sync.proofs.refill.refill.Given as goal
 
@@ -20,10 +21,7 @@ invariant-items g l =
       opened : IsRow l.head.item → g.P.Pool.is_open now number.0 ≡ true;
       others : (n : ℕ) → n ≢ number.0 → g.P.Pool.is_open now n ≡ g.P.Pool.is_open first n;
       added : g.P.Pool.added now ≡ g.P.Pool.added first;
-      files : g.P.Pool.files now ≡ g.P.Pool.files first;
-      lists : g.P.Pool.lists now ≡ g.P.Pool.lists first;
-      grows : g.P.Pool.faults first ≤ g.P.Pool.faults now;
-      place : g.P.Pool.place now ≡ g.P.Pool.place first;
+      stays : Stays g.P.Pool.files g.P.Pool.lists g.P.Pool.faults g.P.Pool.place first now;
     }
 
 abbrev pub decreases-items : goal.decreases-items

@@ -1,7 +1,12 @@
-use Rattle.std.proofs.Common.{◌≡◌, ◌<◌, [], length, get_or, refl, sym, ap, ◌∙◌, arith, append-nil}
-use Rattle.std.proofs.lemmas.List.{length-set}
+use Rattle.std.proofs.Common.{◌≡◌, ◌<◌, false, [], length, take, get_or, None, subst, refl, sym, ap, ◌∙◌, arith, append-nil}
+use Rattle.std.proofs.lemmas.List.{length-set, take_all, take_more_set}
+use Rattle.std.proofs.lemmas.List.Elements.{All-nil}
 use Rattle.lean_items.specs.declared.arrival.Arrival.{Arrival}
+use Rattle.lean_items.specs.Given.{end_of}
+use Rattle.frontier_sync.specs.Heads.{stops}
+use Rattle.frontier_sync.specs.Seen.{IsSeen}
 use Rattle.frontier_sync.proofs.SliceLemmas.{sliced-none, sliced-more, sliced-short, sliced-all, rising-written, open-written, front-more, ok-of-err}
+use Rattle.frontier_sync.proofs.TakenLemmas.{stays-none, stays-more}
 use Rattle.frontier_sync.proofs.refill.refill_all.Goals as goal
 
 pub heads-init : goal.heads-init
@@ -10,12 +15,10 @@ heads-init g c = record {
   size = sym (c.len-place-end.ensures ∙ c.args.heads.now.ok.0);
   rising = c.requires.rising;
   opened = c.requires.opened;
+  seen = (All-nil (λ (a : Arrival). stops a.item ≡ false), All-nil (λ (a : Arrival). end_of a.item ≡ None));
   front = ([], sym (append-nil c.args.out.now.items));
   added = refl;
-  files = refl;
-  lists = refl;
-  grows = omega arith;
-  place_kept = refl;
+  stays = stays-none g.P.Pool.files g.P.Pool.lists g.P.Pool.faults g.P.Pool.place c.args.pool.now;
 }
 
 pub returns-in_err-refill-clause-rising : goal.returns-in_err-refill-clause-rising
@@ -50,15 +53,18 @@ heads-preserved g c =
       rising = rising-written c.heads.heads.items c.heads.place head c.refill.new.head inv.rising within (c.refill.ensures.feed ∙ ap (λ (a : Arrival). a.feed) (sym read));
       opened = open-written (g.P.Pool.is_open c.heads.pool) (g.P.Pool.is_open c.refill.new.pool) c.heads.heads.items c.heads.place head c.refill.new.head inv.opened
           inv.rising within read c.refill.ensures.feed c.refill.ensures.opened c.refill.ensures.others;
+      seen = subst (λ xs. IsSeen xs c.seen_with-seen.result) (sym (take_more_set c.heads.heads.items c.heads.place c.refill.new.head within))
+          (c.seen_with-seen.ensures (take c.heads.place c.heads.heads.items) c.refill.new.head refl inv.seen);
       front = front-more c.args.out.now.items c.heads.out.items c.refill.new.out.items inv.front c.refill.ensures.front;
       added = c.refill.ensures.added ∙ inv.added;
-      files = c.refill.ensures.files ∙ inv.files;
-      lists = c.refill.ensures.lists ∙ inv.lists;
-      grows = omega (arith, c.refill.ensures.grows, inv.grows);
-      place_kept = c.refill.ensures.place ∙ inv.place_kept;
+      stays = stays-more g.P.Pool.files g.P.Pool.lists g.P.Pool.faults g.P.Pool.place c.args.pool.now c.heads.pool c.refill.new.pool inv.stays c.refill.ensures.stays;
     }
 
 pub returns-clause-took : goal.returns-clause-took
 returns-clause-took g c =
     sliced-all (g.P.Pool.stands c.args.pool.now) (g.P.Pool.stands c.heads.pool) c.args.at.0 c.heads.place c.args.heads.now.items c.heads.heads.items
     c.args.out.now.items c.heads.out.items c.heads.invariant.sliced (omega (arith, c.heads-test.false, c.heads.invariant.size))
+
+pub returns-clause-seen : goal.returns-clause-seen
+returns-clause-seen g c =
+    subst (λ xs. IsSeen xs c.heads.seen) (take_all c.heads.place c.heads.heads.items (omega (arith, c.heads-test.false, c.heads.invariant.size))) c.heads.invariant.seen

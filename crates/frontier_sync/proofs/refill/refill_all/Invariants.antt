@@ -1,7 +1,9 @@
 -- The heads before a place are sliced.
-use Rattle.std.proofs.Common.{◌≡◌, ◌≤◌, List, ◌++◌, length}
+use Rattle.std.proofs.Common.{◌≡◌, List, ◌++◌, length, take}
 use Rattle.lean_items.specs.declared.arrival.Arrival.{Arrival}
 use Rattle.frontier_sync.specs.Heads.{AreRising, AreOpen}
+use Rattle.frontier_sync.specs.Seen.{IsSeen}
+use Rattle.frontier_sync.specs.Stays.{Stays}
 use Rattle.frontier_sync.proofs.SliceLemmas.{SlicedTo}
 use Rattle.frontier_sync.proofs.refill.refill_all.Given as goal
 
@@ -14,10 +16,8 @@ invariant-heads g l =
       size : length l.heads.items ≡ l.place-end;
       rising : AreRising l.heads.items;
       opened : AreOpen (g.P.Pool.is_open now) l.heads.items;
+      seen : IsSeen (take l.place l.heads.items) l.seen;
       front : (more : List Arrival) × (l.out.items ≡ l.fn.out.items ++ more);
       added : g.P.Pool.added now ≡ g.P.Pool.added first;
-      files : g.P.Pool.files now ≡ g.P.Pool.files first;
-      lists : g.P.Pool.lists now ≡ g.P.Pool.lists first;
-      grows : g.P.Pool.faults first ≤ g.P.Pool.faults now;
-      place_kept : g.P.Pool.place now ≡ g.P.Pool.place first;
+      stays : Stays g.P.Pool.files g.P.Pool.lists g.P.Pool.faults g.P.Pool.place first now;
     }

@@ -1,4 +1,4 @@
-use Rattle.std.proofs.Common.{◌≡◌, Ok, sym, ap}
+use Rattle.std.proofs.Common.{Ok, sym, ap}
 use Rattle.std.proofs.lemmas.Result.{err_from_is_err_and}
 use Rattle.rule_strategy.specs.Settings.{costs}
 use Rattle.rule_strategy.proofs.Chains.{fails_first}

@@ -1,4 +1,4 @@
-use Rattle.std.proofs.Common.{◌≡◌, Ok, sym, ap}
+use Rattle.std.proofs.Common.{Ok, sym, ap}
 use Rattle.rule_strategy.specs.Universe.{selection}
 use Rattle.rule_strategy.proofs.universe.read_selection.Goals as goal
 

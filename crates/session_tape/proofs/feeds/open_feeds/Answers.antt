@@ -2,8 +2,9 @@ use Rattle.std.proofs.Common.{rules, ◌≡◌, ◌+◌, ◌<◌, pos, true, fal
 use Rattle.std.specs.List.{All}
 use Rattle.std.proofs.lemmas.List.{take_more, take_all, length-take-le}
 use Rattle.lean_fixed.specs.Moments.{first_moment}
-use Rattle.frontier_sync.specs.Heads.{arrival, ends_past, AreOpen}
+use Rattle.frontier_sync.specs.Heads.{arrival, fits_first, AreOpen}
 use Rattle.frontier_sync.specs.Stands.{HeadsStand}
+use Rattle.frontier_sync.proofs.TakenLemmas.{stays-more}
 use Rattle.session_tape.specs.Walked.{keys_of}
 use Rattle.session_tape.proofs.OpenLemmas.{put_last, numbered_more, open_more, later_more, Opened, opened_more}
 use Rattle.session_tape.proofs.WalkLemmas.{AreNumbered, AllFrom}
@@ -22,9 +23,9 @@ symbols-preserved g c =
     let now = c.first_head-item.new.pool in
     let within : place < length symbols = c.symbols-test.true in
     let number : feed.0 ≡ place = c.in_ok-feed.ensures.number ∙ inv.added in
-    let past : ends_past (pos start) item ≡ true = subst (λ z. ends_past z item ≡ true) c.first_moment.ensures c.first_head-item.ensures.past in
+    let past : fits_first (pos start) item ≡ true = subst (λ z. fits_first z item ≡ true) c.first_moment.ensures c.first_head-item.ensures.fits in
     let (passed, none, takes) = c.first_head-item.ensures.took in
-    let before = subst (λ z. All (λ x. ends_past z x ≡ false) passed) c.first_moment.ensures none in
+    let before = subst (λ z. All (λ x. fits_first z x ≡ false) passed) c.first_moment.ensures none in
     let numbered : AreNumbered feed.0 heads = subst (λ n. AreNumbered n heads) (sym number) inv.numbered in
     let is : c.set.new.self ≡ heads ++ arrival feed item ∷ [] = c.in_ok-set.ensures.ok ∙ put_last (arrival feed item) heads numbered in
     let count : length (take place symbols) ≡ place = length-take-le place symbols (omega (arith, within)) in
@@ -43,10 +44,10 @@ symbols-preserved g c =
           (take place symbols) symbol feed passed item (inv.known b h)
           (λ k feeds st. search (rules, c.in_ok-feed.ensures.stands k feeds st))
           takes before past (number ∙ sym count) (subst (λ n. AreNumbered n heads) (sym count) inv.numbered)));
-      files = c.first_head-item.ensures.files ∙ c.in_ok-feed.ensures.files ∙ inv.files;
-      lists = c.first_head-item.ensures.lists ∙ c.in_ok-feed.ensures.lists ∙ inv.lists;
-      grows = omega (arith, c.first_head-item.ensures.grows, c.in_ok-feed.ensures.grows, inv.grows);
-      place = c.first_head-item.ensures.place ∙ c.in_ok-feed.ensures.place ∙ inv.place;
+      stays = stays-more g.P.Pool.files g.P.Pool.lists g.P.Pool.faults g.P.Pool.place c.args.pool.now c.symbols.pool now inv.stays
+          (stays-more g.P.Pool.files g.P.Pool.lists g.P.Pool.faults g.P.Pool.place c.symbols.pool c.add.new.self now
+          (record { told = c.in_ok-feed.ensures.files; keyed = c.in_ok-feed.ensures.lists; grows = c.in_ok-feed.ensures.grows; placed = c.in_ok-feed.ensures.place })
+          c.first_head-item.ensures.stays);
     }
 
 pub returns-clause-stands : goal.returns-clause-stands

@@ -1,10 +1,11 @@
 -- The feeds of the first symbols were opened.
-use Rattle.std.proofs.Common.{◌≡◌, ◌+◌, ◌≤◌, take}
+use Rattle.std.proofs.Common.{◌≡◌, ◌+◌, take}
 use Rattle.lean_fixed.specs.Moments.{first_moment}
 use Rattle.lean_items.specs.Taken.{Start, no_feeds}
 use Rattle.frontier_sync.specs.Heads.{AreOpen}
 use Rattle.session_tape.proofs.OpenLemmas.{Opened}
 use Rattle.session_tape.proofs.WalkLemmas.{AreNumbered, AllFrom}
+use Rattle.frontier_sync.specs.Stays.{Stays}
 use Rattle.session_tape.proofs.feeds.open_feeds.Given as goal
 
 abbrev pub invariant-symbols : goal.invariant-symbols
@@ -17,8 +18,5 @@ invariant-symbols g l =
       later : AllFrom (first_moment l.window + 1) l.heads;
       added : g.P.Pool.added now ≡ l.place;
       known : (before : Start) → g.P.Pool.stands first before no_feeds → Opened l.resolution l.window (g.P.Pool.stands now) before l.heads (take l.place l.symbols);
-      files : g.P.Pool.files now ≡ g.P.Pool.files first;
-      lists : g.P.Pool.lists now ≡ g.P.Pool.lists first;
-      grows : g.P.Pool.faults first ≤ g.P.Pool.faults now;
-      place : g.P.Pool.place now ≡ g.P.Pool.place first;
+      stays : Stays g.P.Pool.files g.P.Pool.lists g.P.Pool.faults g.P.Pool.place first now;
     }

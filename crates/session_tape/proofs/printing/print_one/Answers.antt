@@ -1,5 +1,5 @@
 -- A feed with another number has no symbol.
-use Rattle.std.proofs.Common.{rules, ◌≡◌, None, slice_get, sym, subst}
+use Rattle.std.proofs.Common.{rules, arith, ◌≡◌, None, slice_get, sym, subst}
 use Rattle.std.specs.Option.{option_to_list}
 use Rattle.std.proofs.lemmas.Option.{slice_get_past}
 use Rattle.report_pages.specs.Printed.{IsPrinted}
@@ -9,9 +9,13 @@ use Rattle.session_tape.specs.Shown.{shown_one}
 use Rattle.session_tape.proofs.PrintLemmas.{none_shown}
 use Rattle.session_tape.proofs.printing.print_one.Goals as goal
 
-pub returns-in-None-clause-printed : goal.returns-in-None-clause-printed
-returns-in-None-clause-printed g c =
+pub returns-in-None-clause-prints : goal.returns-in-None-clause-prints
+returns-in-None-clause-prints g c =
     let none : slice_get c.args.symbols.now c.args.arrival.now.feed.0 ≡ None = search (rules, slice_get_past c.args.symbols.now c.args.arrival.now.feed.0) in
     let nothing : shown_one c.args.symbols.now c.args.arrival.now ≡ None = none_shown c.args.symbols.now c.args.arrival.now none in
-    subst (λ o. IsPrinted (g.S.Sink.told c.args.out.now) (g.S.Sink.told c.args.out.now) c.args.page.now.items c.args.page.now.items (session_text (option_to_list o))) (sym nothing)
-    (IsPrinted-nothing (g.S.Sink.told c.args.out.now) c.args.page.now.items)
+    let told = g.S.Sink.told c.args.out.now in
+    let page = c.args.page.now in (
+      subst (λ o. IsPrinted told told page page (session_text (option_to_list o))) (sym nothing) (IsPrinted-nothing told page),
+      c.requires.room,
+      omega arith,
+    )

@@ -7,8 +7,8 @@ use Rattle.session_tape.proofs.printing.print_slice.Given as goal
 
 abbrev pub invariant-items : goal.invariant-items
 invariant-items g l = record {
-  text : l.front.items ≡ moment_text l.at;
-  printing : Printing l.symbols l.slice l.place l.rows (g.S.Sink.told l.fn.out) (g.S.Sink.told l.out) l.fn.page.items l.page.items;
-  room : HasRoom l.page.items;
+  text : l.front ≡ moment_text l.at;
+  printing : Printing l.symbols l.slice l.place l.rows (g.S.Sink.told l.fn.out) (g.S.Sink.told l.out) l.fn.page l.page;
+  room : HasRoom l.page;
   grows : g.S.Sink.faults l.fn.out ≤ g.S.Sink.faults l.out;
 }

@@ -1,4 +1,4 @@
-use Rattle.std.proofs.Common.{◌≡◌, ◌+◌, ◌<◌, ◌≤◌, pos, true, ◌++◌, Some, None, length, refl, sym, ap, ◌∙◌, subst, arith}
+use Rattle.std.proofs.Common.{◌≡◌, ◌+◌, ◌<◌, ◌≤◌, pos, true, ◌++◌, Some, None, length, sym, ap, ◌∙◌, subst, arith}
 use Rattle.std.specs.Prelude.{find}
 use Rattle.std.specs.List.{All}
 use Rattle.lean_fixed.specs.Moments.{first_moment}
@@ -6,6 +6,7 @@ use Rattle.lean_items.specs.declared.arrival.Arrival.{Arrival}
 use Rattle.frontier_sync.specs.Heads.{stops}
 use Rattle.frontier_sync.specs.Slices.{ends_at, slice_of, IsSliced}
 use Rattle.frontier_sync.proofs.StandLemmas.{head-found}
+use Rattle.frontier_sync.proofs.TakenLemmas.{stays-none, stays-more}
 use Rattle.report_pages.specs.declared.pages.Stop.TheVariants.{NoMemory}
 use Rattle.report_pages.specs.Printed.{IsPrinted, IsFront}
 use Rattle.session_tape.specs.Session.{session_text}
@@ -25,15 +26,12 @@ minutes-init g c =
       high = omega (arith, at, c.requires.order);
       known = λ before feeds stand taken.
           subst (λ n. Known c.args.resolution c.args.window c.args.symbols.now (g.P.Pool.stands c.args.pool.now) before feeds c.args.heads.now c.args.heads.now n 0
-          (g.S.Sink.told c.args.out.now) (g.S.Sink.told c.args.out.now) c.args.page.now.items c.args.page.now.items) (sym at)
+          (g.S.Sink.told c.args.out.now) (g.S.Sink.told c.args.out.now) c.args.page.now c.args.page.now) (sym at)
           (known_start c.args.resolution c.args.window c.args.symbols.now c.requires.window (g.P.Pool.stands c.args.pool.now) before feeds c.args.heads.now
-          (g.S.Sink.told c.args.out.now) c.args.page.now.items c.requires.order stand taken);
+          (g.S.Sink.told c.args.out.now) c.args.page.now c.requires.order stand taken);
       room = c.requires.room;
       sink_grows = omega arith;
-      files = refl;
-      lists = refl;
-      grows = omega arith;
-      place = refl;
+      stays = stays-none g.P.Pool.files g.P.Pool.lists g.P.Pool.faults g.P.Pool.place c.args.pool.now;
     }
 
 pub ending_at-requires-clause-stops : goal.ending_at-requires-clause-stops
@@ -50,21 +48,21 @@ pub returns-in-Some-clause-stands : goal.returns-in-Some-clause-stands
 returns-in-Some-clause-stands g c before feeds stand taken =
     let found : find (λ (a : Arrival). stops a.item) c.minutes.heads ≡ Some c.in-Some.stop = sym c.stop.ensures.first ∙ c.in-Some.is in
     ends_stopped c.args.resolution c.args.window c.args.symbols.now c.requires.window (g.P.Pool.stands c.minutes.pool) before feeds c.args.heads.now c.minutes.heads c.minutes.at c.minutes.rows
-    (g.S.Sink.told c.args.out.now) (g.S.Sink.told c.minutes.out) c.args.page.now.items c.minutes.page.items (c.minutes.invariant.known before feeds stand taken)
+    (g.S.Sink.told c.args.out.now) (g.S.Sink.told c.minutes.out) c.args.page.now c.minutes.page (c.minutes.invariant.known before feeds stand taken)
     c.in-Some.stop c.ending_at.result found c.ending_at.ensures c.minutes.invariant.later
 
 pub returns-in-None-next_minute-clause-stands : goal.returns-in-None-next_minute-clause-stands
 returns-in-None-next_minute-clause-stands g c before feeds stand taken =
     let none : find (λ (a : Arrival). stops a.item) c.minutes.heads ≡ None = sym c.stop.ensures.first ∙ c.in-None.is in
     ends_whole c.args.resolution c.args.window c.args.symbols.now c.requires.window (g.P.Pool.stands c.minutes.pool) before feeds c.args.heads.now c.minutes.heads c.minutes.at c.minutes.rows
-    (g.S.Sink.told c.args.out.now) (g.S.Sink.told c.minutes.out) c.args.page.now.items c.minutes.page.items (c.minutes.invariant.known before feeds stand taken)
+    (g.S.Sink.told c.args.out.now) (g.S.Sink.told c.minutes.out) c.args.page.now c.minutes.page (c.minutes.invariant.known before feeds stand taken)
     none c.minutes.invariant.later c.in-None-next_minute.ensures
 
 pub returns-in-Err-clause-stands : goal.returns-in-Err-clause-stands
 returns-in-Err-clause-stands g c before feeds stand taken =
     let (of_feeds, sliced, moves, heads) = c.in-Err.ensures.took in
     ends_unsliced c.args.resolution c.args.window c.args.symbols.now c.requires.window (g.P.Pool.stands c.minutes.pool) before feeds c.args.heads.now c.minutes.heads c.minutes.at c.minutes.rows
-    (g.S.Sink.told c.args.out.now) (g.S.Sink.told c.minutes.out) c.args.page.now.items c.minutes.page.items (c.minutes.invariant.known before feeds stand taken)
+    (g.S.Sink.told c.args.out.now) (g.S.Sink.told c.minutes.out) c.args.page.now c.minutes.page (c.minutes.invariant.known before feeds stand taken)
     (g.P.Pool.stands c.slice.new.pool) of_feeds NoMemory moves
 
 pub print_slice-requires-clause-ends : goal.print_slice-requires-clause-ends
@@ -88,10 +86,10 @@ returns-in-Err-print_slice-clause-stands g c before feeds stand taken =
     let low : c.minutes.at + 1 ≤ next = least (c.minutes.at + 1) c.minutes.invariant.later in
     let is : c.deref.result.now ≡ slice_of (pos next) of_feeds c.minutes.heads
     = c.deref.ensures.value ∙ out ∙ ap (λ xs. xs ++ slice_of (pos next) of_feeds c.minutes.heads) c.clear.ensures.items in
-    let front = subst (λ xs. IsFront (g.S.Sink.told c.minutes.out) (g.S.Sink.told c.print_slice.new.out) (c.minutes.page.items ++ session_text (shown c.args.symbols.now xs))) is c.in-Err-print_slice.ensures.front in
+    let front = subst (λ xs. IsFront (g.S.Sink.told c.minutes.out) (g.S.Sink.told c.print_slice.new.out) (c.minutes.page ++ session_text (shown c.args.symbols.now xs))) is c.in-Err-print_slice.ensures.prints.0 in
     ends_unprinted c.args.resolution c.args.window c.args.symbols.now c.requires.window (g.P.Pool.stands c.minutes.pool) before feeds c.args.heads.now c.minutes.heads c.minutes.at c.minutes.rows
-    (g.S.Sink.told c.args.out.now) (g.S.Sink.told c.minutes.out) c.args.page.now.items c.minutes.page.items (c.minutes.invariant.known before feeds stand taken)
-    (g.P.Pool.stands c.slice.new.pool) next of_feeds c.slice.new.self (g.S.Sink.told c.print_slice.new.out) c.print_slice.new.page.items c.in-Err-print_slice.stop none c.minutes.invariant.later
+    (g.S.Sink.told c.args.out.now) (g.S.Sink.told c.minutes.out) c.args.page.now c.minutes.page (c.minutes.invariant.known before feeds stand taken)
+    (g.P.Pool.stands c.slice.new.pool) next of_feeds c.slice.new.self (g.S.Sink.told c.print_slice.new.out) c.print_slice.new.page c.in-Err-print_slice.stop none c.minutes.invariant.later
     (omega (arith, low)) high from c.requires.few sliced moves front
 
 pub minutes-preserved : goal.minutes-preserved
@@ -109,7 +107,7 @@ minutes-preserved g c =
     let is : c.deref.result.now ≡ slice_of (pos next) of_feeds c.minutes.heads
     = c.deref.ensures.value ∙ out ∙ ap (λ xs. xs ++ slice_of (pos next) of_feeds c.minutes.heads) c.clear.ensures.items in
     let counted = subst (λ xs. c.in-Ok-print_slice.printed ≡ length (shown c.args.symbols.now xs)) is lines.counted in
-    let printed = subst (λ xs. IsPrinted (g.S.Sink.told c.minutes.out) (g.S.Sink.told c.print_slice.new.out) c.minutes.page.items c.print_slice.new.page.items (session_text (shown c.args.symbols.now xs))) is lines.printed in
+    let printed = subst (λ xs. IsPrinted (g.S.Sink.told c.minutes.out) (g.S.Sink.told c.print_slice.new.out) c.minutes.page c.print_slice.new.page (session_text (shown c.args.symbols.now xs))) is lines.prints.0 in
     record {
       opened = took.opened;
       numbered = numbered_next (pos next) of_feeds (length c.args.symbols.now) c.minutes.heads c.slice.new.self inv.numbered sliced;
@@ -118,13 +116,10 @@ minutes-preserved g c =
       high = high;
       known = λ before feeds stand taken.
           known_next c.args.resolution c.args.window c.args.symbols.now c.requires.window (g.P.Pool.stands c.minutes.pool) before feeds c.args.heads.now c.minutes.heads c.minutes.at c.minutes.rows
-          (g.S.Sink.told c.args.out.now) (g.S.Sink.told c.minutes.out) c.args.page.now.items c.minutes.page.items (inv.known before feeds stand taken)
-          (g.P.Pool.stands c.slice.new.pool) next c.in-Ok-print_slice.printed c.saturating_add-rows.result of_feeds c.slice.new.self (g.S.Sink.told c.print_slice.new.out) c.print_slice.new.page.items
+          (g.S.Sink.told c.args.out.now) (g.S.Sink.told c.minutes.out) c.args.page.now c.minutes.page (inv.known before feeds stand taken)
+          (g.P.Pool.stands c.slice.new.pool) next c.in-Ok-print_slice.printed c.saturating_add-rows.result of_feeds c.slice.new.self (g.S.Sink.told c.print_slice.new.out) c.print_slice.new.page
           none inv.later (omega (arith, low)) high from c.requires.few sliced moves counted printed c.saturating_add-rows.ensures;
-      room = lines.room;
-      sink_grows = omega (arith, inv.sink_grows, lines.grows);
-      files = took.files ∙ inv.files;
-      lists = took.lists ∙ inv.lists;
-      grows = omega (arith, inv.grows, took.grows);
-      place = took.place ∙ inv.place;
+      room = lines.prints.1;
+      sink_grows = omega (arith, inv.sink_grows, lines.prints.2);
+      stays = stays-more g.P.Pool.files g.P.Pool.lists g.P.Pool.faults g.P.Pool.place c.args.pool.now c.minutes.pool c.slice.new.pool inv.stays took.stays;
     }

@@ -1,5 +1,5 @@
 -- How far the walk has come.
-use Rattle.std.proofs.Common.{◌≡◌, ◌+◌, ◌-◌, ◌≤◌, length}
+use Rattle.std.proofs.Common.{◌+◌, ◌-◌, ◌≤◌, length}
 use Rattle.std.specs.List.{All}
 use Rattle.lean_fixed.specs.Moments.{first_moment, last_moment}
 use Rattle.lean_items.specs.Taken.{Start, Feeds}
@@ -7,6 +7,7 @@ use Rattle.frontier_sync.specs.Heads.{AreOpen}
 use Rattle.frontier_sync.specs.Stands.{IsTaken}
 use Rattle.report_pages.specs.Printed.{HasRoom}
 use Rattle.session_tape.proofs.WalkLemmas.{AreNumbered, AllFrom, Known}
+use Rattle.frontier_sync.specs.Stays.{Stays}
 use Rattle.session_tape.proofs.walk.walk.Given as goal
 
 abbrev pub invariant-minutes : goal.invariant-minutes
@@ -21,13 +22,10 @@ invariant-minutes g l =
       high : l.at ≤ last_moment l.window;
       known : (before : Start) (feeds : Feeds) → g.P.Pool.stands first before feeds → All (IsTaken feeds) l.fn.heads
           → Known l.fn.resolution l.window l.symbols (g.P.Pool.stands now) before feeds l.fn.heads l.heads l.at l.rows
-          (g.S.Sink.told l.fn.out) (g.S.Sink.told l.out) l.fn.page.items l.page.items;
-      room : HasRoom l.page.items;
+          (g.S.Sink.told l.fn.out) (g.S.Sink.told l.out) l.fn.page l.page;
+      room : HasRoom l.page;
       sink_grows : g.S.Sink.faults l.fn.out ≤ g.S.Sink.faults l.out;
-      files : g.P.Pool.files now ≡ g.P.Pool.files first;
-      lists : g.P.Pool.lists now ≡ g.P.Pool.lists first;
-      grows : g.P.Pool.faults first ≤ g.P.Pool.faults now;
-      place : g.P.Pool.place now ≡ g.P.Pool.place first;
+      stays : Stays g.P.Pool.files g.P.Pool.lists g.P.Pool.faults g.P.Pool.place first now;
     }
 
 abbrev pub decreases-minutes : goal.decreases-minutes

@@ -5,4 +5,4 @@ use Rattle.frontier_sync.proofs.heads.Heads.forget.Goals as goal
 
 pub invariant_of-self : goal.invariant_of-self
 invariant_of-self c =
-    subst (λ xs. AreRising xs) (sym c.forget.ensures) (rising-filter (λ a. not (a.feed.0 == c.args.feed.0)) c.self.inside.heads.items c.self.invariant)
+    (subst (λ xs. AreRising xs) (sym c.forget.ensures) (rising-filter (λ a. not (a.feed.0 == c.args.feed.0)) c.self.inside.heads.items c.self.invariant.0), tt)

@@ -1,0 +1,10 @@
+pub mod DayStarts
+pub mod HeadLemmas
+pub mod SheetLemmas
+pub mod StepLemmas
+pub mod FollowLemmas
+pub mod NextLemmas
+pub mod Stepping
+pub mod Walking
+pub mod Reporting
+pub mod SourceLemmas

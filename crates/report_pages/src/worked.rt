@@ -1,1 +1,0 @@
-//! The lines of a tape, computed on a worked row.

@@ -1,0 +1,2 @@
+pub mod DrawdownLemmas
+pub mod HoldingLemmas

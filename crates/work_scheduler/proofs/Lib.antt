@@ -1,0 +1,3 @@
+pub mod PlacingLemmas
+pub mod ServedLemmas
+pub mod TurnLemmas
