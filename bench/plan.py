@@ -1,5 +1,5 @@
 #!/usr/bin/env python3
-"""Shows that reading an algorithm file takes time in proportion to its bytes.
+"""Measures whether reading an algorithm file takes time in proportion to its bytes.
 
 It needs the kit's `rt`. A small program is built beside copies of the crates that it stands on, without their proofs and
 with the checks of `rt try`, so its times say how they grow and no more. It makes files of 64 KiB to 1 MiB in memory: of
