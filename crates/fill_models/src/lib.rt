@@ -3,6 +3,7 @@
 #![tactic(auto)]
 
 mod fill;
+pub mod laws;
 mod worked;
 
 pub use fill::{triggers, try_fill};

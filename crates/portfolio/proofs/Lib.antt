@@ -5,5 +5,6 @@ pub mod FillLemmas
 pub mod MarkLemmas
 pub mod StandsLemmas
 pub mod SmallLemmas
+pub mod MoneyLemmas
 pub mod TotalsLemmas
 pub mod HoldingLemmas

@@ -1,6 +1,6 @@
 -- How large the sums over a million fills become.
 use Rattle.std.proofs.Common.{◌≡◌, ℕ, ◌+◌, ◌*◌, ◌<◌, ◌≤◌, Bool, true, false, List, [], ◌∷◌, ◌++◌, length, ℤ, pos, neg_ℤ, ◌+ℤ◌, ◌*ℤ◌, Option, Some, None, refl, sym, ap, ◌∙◌, subst, arith, if◌then◌else◌}
-use Rattle.std.specs.Prelude.{unsigned_abs, unwrap_or, option_map}
+use Rattle.std.specs.Prelude.{unsigned_abs, unwrap_or, option_map, filter, not}
 use Rattle.std.proofs.lemmas.Int.{ints, unsigned_abs-mul}
 use Rattle.std.proofs.Math.Nat.{mul-le-mul}
 use Rattle.lean_fixed.specs.Ranges.{IsAtMost, IsStartingCash, most_position, most_quantity, most_fill_price, most_price, most_fee, most_starting_cash}
@@ -11,7 +11,7 @@ use Rattle.portfolio.specs.declared.totals.Holding.{Holding}
 use Rattle.portfolio.specs.Symbols.{same_symbol, sum_of}
 use Rattle.portfolio.specs.Lots.{lot_of}
 use Rattle.portfolio.specs.LotRanges.{most_value, most_cost, IsBounded}
-use Rattle.portfolio.specs.Sums.{Mark, fills_of, cash, fees, position, realised, last_mark, traded, marked, value_of, gross_of, worth, gross, AreFills, AreMarks}
+use Rattle.portfolio.specs.Sums.{Mark, fills_of, cash, fees, position, realised, last_mark, traded, marked, value_of, gross_of, worth, gross, gross_without, AreFills, AreMarks}
 use Rattle.portfolio.specs.Account.{holding_in}
 use Rattle.portfolio.specs.Stands.{StandsFor, most_fills}
 use Rattle.portfolio.specs.Small.{IsSmall, IsPriced, IsSmallHolding}
@@ -50,7 +50,7 @@ share_most fill r = abs_le most_quantity fill.quantity.0 r.quantity.1
 cost_most : (fill : Fill) → IsFill fill → unsigned_abs ((fill.quantity.0 *ℤ fill.price.0) +ℤ fill.fee.0) ≤ most_value + most_fee
 cost_most fill r = omega (arith, value_most fill r, fee_most fill r, abs_add_le (fill.quantity.0 *ℤ fill.price.0) fill.fee.0)
 
-cash_small : (start : ℤ) (fills : List Fill) → IsStartingCash start → AreFills fills → length fills ≤ most_fills → unsigned_abs (cash start fills) ≤ most_cost
+pub cash_small : (start : ℤ) (fills : List Fill) → IsStartingCash start → AreFills fills → length fills ≤ most_fills → unsigned_abs (cash start fills) ≤ most_cost
 cash_small start fills s r few =
     let cost : Fill → ℤ = λ fill. (fill.quantity.0 *ℤ fill.price.0) +ℤ fill.fee.0 in
     omega (
@@ -63,7 +63,7 @@ cash_small start fills s r few =
       abs_le most_starting_cash start (omega (arith, ints, s.0), s.1),
     )
 
-fees_small : (fills : List Fill) → AreFills fills → length fills ≤ most_fills → unsigned_abs (fees fills) ≤ most_cost
+pub fees_small : (fills : List Fill) → AreFills fills → length fills ≤ most_fills → unsigned_abs (fees fills) ≤ most_cost
 fees_small fills r few =
     omega (arith, sum_le (λ fill. fill.fee.0) fills, total_le (λ fill. unsigned_abs fill.fee.0) most_fee fee_most fills r, million (length fills) most_fee few)
 
@@ -74,7 +74,7 @@ money_load s fills = omega (arith, lot_money (fills_of s fills), load-is value_w
 profit_load : (s : List ℕ) (fills : List Fill) → unsigned_abs (lot_of (fills_of s fills)).profit ≤ load value_weight s fills
 profit_load s fills = omega (arith, money_load s fills)
 
-realised_small : (fills : List Fill) → AreFills fills → length fills ≤ most_fills → unsigned_abs (realised fills) ≤ most_cost
+pub realised_small : (fills : List Fill) → AreFills fills → length fills ≤ most_fills → unsigned_abs (realised fills) ≤ most_cost
 realised_small fills r few =
     omega (
       arith,
@@ -103,7 +103,7 @@ gross_load s fills marks m =
 gross_most : (fill : Fill) → IsFill fill → gross_weight fill ≤ most_quantity * most_price
 gross_most fill r = omega (arith, share_most fill r)
 
-worth_small : (fills : List Fill) (marks : List Mark) → AreFills fills → AreMarks marks → length fills ≤ most_fills → unsigned_abs (worth fills marks) ≤ most_cost
+pub worth_small : (fills : List Fill) (marks : List Mark) → AreFills fills → AreMarks marks → length fills ≤ most_fills → unsigned_abs (worth fills marks) ≤ most_cost
 worth_small fills marks r m few =
     omega (
       arith,
@@ -114,7 +114,7 @@ worth_small fills marks r m few =
       million (length fills) (most_quantity * most_price) few,
     )
 
-gross_small : (fills : List Fill) (marks : List Mark) → AreFills fills → AreMarks marks → length fills ≤ most_fills → unsigned_abs (gross fills marks) ≤ most_cost
+pub gross_small : (fills : List Fill) (marks : List Mark) → AreFills fills → AreMarks marks → length fills ≤ most_fills → unsigned_abs (gross fills marks) ≤ most_cost
 gross_small fills marks r m few =
     omega (
       arith,
@@ -134,6 +134,19 @@ load_le w s (fill ∷ fills) = step (same_symbol s fill.symbol) (w fill) (load w
     step true n l t h = omega arith
     step false n l t h = omega arith
 
+pub others_small : (s : List ℕ) (fills : List Fill) (marks : List Mark) → AreFills fills → AreMarks marks → length fills ≤ most_fills
+    → unsigned_abs (gross_without s fills marks) ≤ most_cost
+others_small s fills marks r m few =
+    let others : List (List ℕ) = filter (λ other. not (same_symbol s other)) (marked marks) in
+    omega (
+      arith,
+      each_le (gross_of fills marks) (λ s. load gross_weight s fills)
+          (λ s. rw (unsigned_abs-mul (pos (unsigned_abs (position s fills))) (unwrap_or (last_mark s marks) (pos 0))) (gross_load s fills marks m)) others,
+      each_load gross_weight fills others,
+      total_le gross_weight (most_quantity * most_price) gross_most fills r,
+      million (length fills) (most_quantity * most_price) few,
+    )
+
 pub totals_small : (totals : Totals) (entries : List (List ℕ × Holding)) (start : ℤ) (fills : List Fill) (marks : List Mark)
     → StandsFor (record { totals = totals; entries = entries }) start fills marks → IsSmall totals
 totals_small totals entries start fills marks stands =
@@ -149,7 +162,7 @@ totals_small totals entries start fills marks stands =
       fills = omega (arith, stands.count, stands.few);
     }
 
-position_small : (s : List ℕ) (fills : List Fill) → AreFills fills → length fills ≤ most_fills → unsigned_abs (lot_of (fills_of s fills)).position ≤ most_position
+pub position_small : (s : List ℕ) (fills : List Fill) → AreFills fills → length fills ≤ most_fills → unsigned_abs (lot_of (fills_of s fills)).position ≤ most_position
 position_small s fills r few =
     subst (λ n. unsigned_abs n ≤ most_position) (sym (lot-position (fills_of s fills)))
     (omega (
