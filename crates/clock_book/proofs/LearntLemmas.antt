@@ -122,11 +122,11 @@ module _ (fill : Order → Option Fill) (first : Order → Order) (at : Moment) 
       by true l None e filled live dead = learns-live fills before o xs l e live
       by false l f e filled live dead = learns-dead fills before o xs l (lives o l) dead
 
-matched_live : (book : Book) (o : Order) → is_live o.state ≡ false → matched book o ≡ None
+pub matched_live : (book : Book) (o : Order) → is_live o.state ≡ false → matched book o ≡ None
 matched_live book o dead = ap (λ b. option_and_then (fill_on book.costs book.hours o) (if b then bar_to_try book o.symbol else None)) dead
 
 -- a trigger changes no more than the trigger
-same_but : {A : Type 0} (f : Order → A) → ((o : Order) → f (record o { triggered = true }) ≡ f o) → (book : Book) (o : Order) → f (after_trigger book o) ≡ f o
+pub same_but : {A : Type 0} (f : Order → A) → ((o : Order) → f (record o { triggered = true }) ≡ f o) → (book : Book) (o : Order) → f (after_trigger book o) ≡ f o
 same_but f same book o = by (bar_of book o)
   where
     by : (bar : Option PriceBar) → f (option_map_or (set_off book.hours o) bar o) ≡ f o
@@ -137,7 +137,7 @@ same_but f same book o = by (bar_of book o)
         one true = same o
         one false = refl
 
-tried_id : (book : Book) (o : Order) → (after_match book o).id ≡ o.id
+pub tried_id : (book : Book) (o : Order) → (after_match book o).id ≡ o.id
 tried_id book o = by (is_some (matched book o)) ∙ same_but (λ (o : Order). o.id) (λ o. refl) book o
   where
     by : (b : Bool) → (if b then in_state state.Filled (after_trigger book o) else after_trigger book o).id ≡ (after_trigger book o).id
@@ -236,7 +236,7 @@ canceled-told book at o parts = by (is_live o.state) refl
     by false dead = refl
 
 -- the order that is found by its id
-at_its_id : (id : ℕ) (orders : List Order) (o : Order) → Parted id orders o → Parted o.id orders o
+pub at_its_id : (id : ℕ) (orders : List Order) (o : Order) → Parted id orders o → Parted o.id orders o
 at_its_id id orders o parts = subst (λ k. Parted k orders o) (sym parts.id_is) parts
 
 update-told : (book : Book) (at : Moment) (id : ℕ) (price : Price) (found : Option Order) → AreNumbered 1 book.orders → order_of book id ≡ found
@@ -310,7 +310,7 @@ cancel_ids book at id (Some o) numbered = by (not (is_live o.state))
     by true = numbered
     by false = replaced_ids book (in_state state.Canceled o) numbered
 
-command_ids : (book : Book) (c : Command) → AreNumbered 1 book.orders → AreNumbered 1 (handled book c).book.orders
+pub command_ids : (book : Book) (c : Command) → AreNumbered 1 book.orders → AreNumbered 1 (handled book c).book.orders
 command_ids book (command.Mark at symbol bar) numbered = numbered
 command_ids book (command.Match at) numbered = numbered_map (after_match book) (tried_id book) 1 book.orders numbered
 command_ids book (command.Submit at request) numbered = judged_ids book at request (submit_cause book request) (price_of book request.symbol) refl numbered

@@ -4,4 +4,5 @@ pub mod Matches
 pub mod Handled
 pub mod Fitting
 pub mod Seen
+pub mod InRange
 pub mod Worked
