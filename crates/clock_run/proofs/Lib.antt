@@ -7,3 +7,4 @@ pub mod BarLemmas
 pub mod WorldLemmas
 pub mod NumberLemmas
 pub mod OrderlyLemmas
+pub mod RangeLemmas

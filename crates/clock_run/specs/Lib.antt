@@ -9,4 +9,5 @@ pub mod Reports
 pub mod Worlds
 pub mod Idle
 pub mod Orderly
+pub mod InRange
 pub mod Worked

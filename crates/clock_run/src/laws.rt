@@ -1,13 +1,13 @@
 //! Laws.
 ghost use Rattle.std.specs.Prelude.{◌≡◌, ◌+◌, ◌-◌, ◌<◌, ◌≤◌, ℕ, pos, Bool, List, [], ◌∷◌, ◌++◌, map, find, Option, Some, None};
-ghost use Rattle.std.specs.List.{last_or};
+ghost use Rattle.std.specs.List.{AllByRecursion as Each, last_or};
 ghost use Rattle.std.specs.Option.{option_to_list};
 ghost use Rattle.lean_items.specs.declared.bar.Bar.{Bar};
 ghost use Rattle.clock_steps.specs.Runs.{rests, IsFrontOf};
 ghost use Rattle.lean_fixed.specs.declared.resolution.Resolution.{Resolution};
 ghost use Rattle.lean_fixed.specs.declared.time.Window.{Window};
 ghost use Rattle.lean_fixed.specs.Moments.{first_moment, last_moment};
-ghost use Rattle.lean_fixed.specs.Ranges.{IsWindow};
+ghost use Rattle.lean_fixed.specs.Ranges.{IsPrintedMoment, IsWindow};
 ghost use Rattle.lean_io.specs.Told.{Files};
 ghost use Rattle.lean_items.specs.declared.bad.Bad.{Bad};
 ghost use Rattle.lean_items.specs.declared.feed_key.FeedKey.{FeedKey};
@@ -20,6 +20,8 @@ ghost use Rattle.clock_run.specs.States.{Setup, State, opening, equity_key};
 ghost use Rattle.clock_run.specs.Moments.{moment_of};
 ghost use Rattle.rule_strategy.specs.Validity.{IsPlan};
 ghost use Rattle.clock_run.specs.Orderly.{IsOrderly};
+ghost use Rattle.clock_book.specs.InRange.{HasMoney};
+ghost use Rattle.clock_run.specs.InRange.{HasBarsInRange, IsWorldInRange, IsStateInRange, IsLineInRange};
 ghost use Rattle.clock_run.specs.Idle.{IsIdle, IsQuiet, IsSettled};
 ghost use Rattle.clock_run.specs.Histories.{History, given_with, closes, fresh_bar};
 ghost use Rattle.clock_run.specs.Worlds.{world_of};
@@ -93,4 +95,22 @@ pub fn states_are_orderly()
         → IsOrderly setup.plan (moment_of setup t known s).state }
     ensures states { (setup : Setup) (world : World) (count : ℕ) → IsPlan setup.plan
         → IsOrderly setup.plan (moments setup world count).state }
+{}
+
+/// Where the bars of a world are in range, the numbers of every state of a backtest of a plan that was read are: each fill of the
+/// book has the quantity, the price and the fee of a fill, each mark is a bar in range, each order that was accepted has a
+/// quantity and the prices of its kind, what a refused one asked for lies within 10^18 either way, and the equities of the close
+/// lines are money. So cash, equity, fees and realised profit are money. The bars of a folder's files are in range, so this holds
+/// of every backtest over them. What a moment prints is in range, too: each event that it prints has a line.
+pub fn amounts_stay_in_range()
+    ensures moment { (setup : Setup) (t : ℕ) (known : Known) (s : State) → HasBarsInRange known
+        → IsStateInRange s → IsStateInRange (moment_of setup t known s).state }
+    ensures lines { (setup : Setup) (t : ℕ) (known : Known) (s : State) → HasBarsInRange known
+        → IsStateInRange s → IsPrintedMoment (pos t)
+        → Each (λ line. IsLineInRange line) (moment_of setup t known s).lines }
+    ensures states { (setup : Setup) (world : World) (count : ℕ) → IsPlan setup.plan
+        → IsWorldInRange world → IsStateInRange (moments setup world count).state }
+    ensures sums { (s : State) → IsStateInRange s → HasMoney s.book }
+    ensures files { (files : Files) (hours : Entries) (window : Window) → LieInDays hours
+        → IsWindow window → IsWorldInRange (world_of files hours window) }
 {}

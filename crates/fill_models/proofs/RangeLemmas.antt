@@ -1,5 +1,5 @@
 -- The prices and the fees of fills lie in their ranges.
-use Rattle.std.proofs.Common.{◌≡◌, ℕ, ◌*◌, ◌≤◌, Bool, true, false, Option, Some, None, ℤ, pos, negsuc, ◌*ℤ◌, arith, if◌then◌else◌}
+use Rattle.std.proofs.Common.{ℕ, ◌*◌, ◌≤◌, Bool, true, false, Option, Some, None, ℤ, pos, negsuc, ◌*ℤ◌, arith, if◌then◌else◌}
 use Rattle.std.specs.Prelude.{int_lt, int_le, ◌||◌, option_and_then, unsigned_abs, IfSome}
 use Rattle.std.specs.Int.{int_min, int_max}
 use Rattle.std.proofs.lemmas.Int.{ints, clamps}
@@ -14,7 +14,7 @@ use Rattle.lean_orders.specs.declared.order.Kind.TheVariants.{Market, Limit, Sto
 use Rattle.lean_orders.specs.declared.order.Order.{Order}
 use Rattle.trade_costs.specs.declared.costs.Costs.{Costs}
 use Rattle.trade_costs.specs.Fees.{IsCosts, fee, slipped}
-use Rattle.fill_models.specs.FillPrice.{IsPriced, side_of, limit_price, stop_price, open_price, is_tried, triggers, stop_limit_price, table_price, fill_price}
+use Rattle.fill_models.specs.FillPrice.{IsPriced, side_of, limit_price, stop_price, is_tried, triggers, stop_limit_price, table_price, fill_price}
 
 pub slipped_range : (costs : Costs) (price : ℤ) (side : Side) → IsCosts costs → IsPrice price → IsFillPrice (slipped costs price side)
 slipped_range costs price Buy c p = (omega (arith, ints, c.slip, p), omega (arith, ints, c.slip, p))
