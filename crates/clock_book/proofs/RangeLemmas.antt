@@ -1,6 +1,6 @@
 -- Each command keeps the numbers of a book in their ranges.
-use Rattle.std.proofs.Common.{◌≡◌, ℕ, zero, suc, ◌+◌, ◌≤◌, ◌==◌, ℤ, Bool, true, false, cond, List, [], ◌∷◌, ◌++◌, length, drop, map, Option, Some, None, refl, sym, ap, subst, ◌∙◌, arith, true≢false, if◌then◌else◌}
-use Rattle.std.specs.Prelude.{⊤, ◌≢◌, ◌<◌, is_some, not, ◌&&◌, ◌||◌, option_map, option_and_then, IfSome}
+use Rattle.std.proofs.Common.{◌≡◌, ℕ, zero, suc, ◌+◌, ◌≤◌, ◌==◌, ℤ, pos, negsuc, Bool, true, false, cond, List, [], ◌∷◌, ◌++◌, length, drop, map, Option, Some, None, refl, sym, ap, subst, ◌∙◌, arith, true≢false, if◌then◌else◌}
+use Rattle.std.specs.Prelude.{unsigned_abs, ⊤, ◌≢◌, ◌<◌, is_some, not, ◌&&◌, ◌||◌, option_map, option_and_then, IfSome}
 use Rattle.std.specs.Option.{option_map_or, option_or}
 use Rattle.std.specs.List.{AllByRecursion as Each, find, filter_map, cons_option}
 use Rattle.std.proofs.lemmas.Bool.Decides.{nat_tests}
@@ -43,7 +43,7 @@ use Rattle.clock_book.specs.Books.{BarMark, Book, new_book, price_mark, price_ma
 use Rattle.clock_book.specs.Submits.{is_quantity, has_price, has_limit, is_priced, is_unpriced, power_of, cause_at_price, submit_cause, next_id, kept_price, kept_limit, order_for, fill_at, market_fill}
 use Rattle.clock_book.specs.Matches.{bar_of, is_set_off, set_off, fill_on, after_trigger, matched, in_state, after_match, filled_event, match_event, book_after_match}
 use Rattle.clock_book.specs.Handled.{Handled, with_orders, with_fill, refused_submit, resting_submit, market_submit, accepted_submit, priced_submit, judged_submit, handled_submit, handled_match, at_price, replaced, updated_order, update_found, canceled_order, cancel_found, handled_mark, handled_account, handled, after, replies, unknown, refused, done, said}
-use Rattle.clock_book.specs.Fitting.{IsPriceBar, most_orders, submits}
+use Rattle.clock_book.specs.Fitting.{IsPriceBar, IsFitting, HasRoom, most_orders, submits}
 use Rattle.clock_book.specs.Seen.{AreNumbered}
 use Rattle.clock_book.specs.InRange.{IsPriceIf, IsAccepted, IsAsked, is_refused, IsOrderIf, IsOrder, fills_of_state, filled_orders, IsInRange, HasMoney, HasNumbers, submitted, moment_of, NamesOneOf, IsWhat, IsReply, NamesOrder}
 use Rattle.clock_book.proofs.SeenLemmas.{numbered_push, numbered_map, replaced_id, Parted, parted}
@@ -688,3 +688,86 @@ commands-named most n book (c ∷ cs) r has room le names =
     command-keeps most book r c has.0 (omega (arith, room)) in
     each-append NamesOrder (handled book c).replies (replies (handled book c).book cs) (first.named (names-more n (length book.orders) c le names.0))
     (commands-named most n (handled book c).book cs first.range has.1 (omega (arith, room, first.count)) (omega (arith, le, first.grows)) names.1)
+
+-- ---- a command that fits, whatever it asks for
+
+at-most-more : (m n : ℕ) (z : ℤ) → m ≤ n → IsAtMost m z → IsAtMost n z
+at-most-more m n z le h = (omega (arith, ints, le, h), omega (arith, ints, le, h))
+
+if-more : (m n : ℕ) (price : Option Price) → m ≤ n → IfSome price (λ price. IsAtMost m price.0) → IfSome price (λ price. IsAtMost n price.0)
+if-more m n None le h = tt
+if-more m n (Some price) le h = at-most-more m n price.0 le h
+
+order-more : (m n : ℕ) (o : Order) (b : Bool) → m ≤ n → IsOrderIf b m o → IsOrderIf b n o
+order-more m n o true le h = record {
+  quantity = at-most-more m n o.quantity.0 le h.quantity;
+  price = if-more m n o.price le h.price;
+  limit = if-more m n o.limit le h.limit;
+}
+order-more m n o false le h = h
+
+orders-more : (m n : ℕ) (xs : List Order) → m ≤ n → Each (λ o. IsOrder m o) xs → Each (λ o. IsOrder n o) xs
+orders-more m n [] le all = tt
+orders-more m n (x ∷ xs) le all = (order-more m n x (is_refused x.state) le all.0, orders-more m n xs le all.1)
+
+range-more : (m n : ℕ) (book : Book) → m ≤ n → IsInRange m book → IsInRange n book
+range-more m n book le r = record {
+  start = r.start;
+  costs = r.costs;
+  leverage = r.leverage;
+  marks = r.marks;
+  orders = orders-more m n book.orders le r.orders;
+  few = r.few;
+  numbered = r.numbered;
+  fills = r.fills;
+  filled = r.filled;
+}
+
+-- a number within which all that a command asks for lies
+abbrev size_if : Option Price → ℕ
+size_if None = 0
+size_if (Some price) = unsigned_abs price.0
+
+abbrev size_of : Command → ℕ
+size_of (command.Mark at symbol bar) = 0
+size_of (command.Match at) = 0
+size_of (command.Submit at request) = unsigned_abs request.quantity.0 + size_if request.price + size_if request.limit
+size_of (command.Update at id price) = 0
+size_of (command.Cancel at id) = 0
+size_of (command.Account at) = 0
+
+within-size : (most : ℕ) (z : ℤ) → unsigned_abs z ≤ most → IsAtMost most z
+within-size most (pos n) le = (omega (arith, ints), omega (arith, ints, le))
+within-size most (negsuc n) le = (omega (arith, ints, le), omega (arith, ints))
+
+within-size-if : (most : ℕ) (price : Option Price) → size_if price ≤ most → IfSome price (λ price. IsAtMost most price.0)
+within-size-if most None le = tt
+within-size-if most (Some price) le = within-size most price.0 le
+
+fitting-numbers : (most : ℕ) (c : Command) → IsFitting c → size_of c ≤ most → HasNumbers most c
+fitting-numbers most (command.Mark at symbol bar) fits le = fits.1
+fitting-numbers most (command.Match at) fits le = tt
+fitting-numbers most (command.Submit at request) fits le = record {
+  quantity = within-size most request.quantity.0 (omega (arith, le));
+  price = within-size-if most request.price (omega (arith, le));
+  limit = within-size-if most request.limit (omega (arith, le));
+}
+fitting-numbers most (command.Update at id price) fits le = tt
+fitting-numbers most (command.Cancel at id) fits le = tt
+fitting-numbers most (command.Account at) fits le = tt
+
+room-has : (orders : ℕ) (c : Command) → orders ≤ most_orders → HasRoom orders c → orders + submits c ≤ most_orders
+room-has orders (command.Mark at symbol bar) few has = omega (arith, few)
+room-has orders (command.Match at) few has = omega (arith, few)
+room-has orders (command.Submit at request) few has = omega (arith, has refl)
+room-has orders (command.Update at id price) few has = omega (arith, few)
+room-has orders (command.Cancel at id) few has = omega (arith, few)
+room-has orders (command.Account at) few has = omega (arith, few)
+
+pub fitting-replies : (most : ℕ) (book : Book) (c : Command) → IsInRange most book → IsFitting c → HasRoom (length book.orders) c
+    → Each (λ reply. IsReply (moment_of c) reply) (handled book c).replies
+fitting-replies most book c r fits has =
+    let keeps : Keeps (most + size_of c) (moment_of c) (length book.orders) (submits c) (NamesOneOf (length book.orders) c) (handled book c) =
+    command-keeps (most + size_of c) book (range-more most (most + size_of c) book (omega arith) r) c
+    (fitting-numbers (most + size_of c) c fits (omega arith)) (room-has (length book.orders) c r.few has) in
+    keeps.replies

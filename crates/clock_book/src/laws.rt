@@ -7,8 +7,8 @@ ghost use Rattle.trade_costs.specs.Fees.{IsCosts};
 ghost use Rattle.exchange_hours.specs.Entries.{Entries};
 ghost use Rattle.lean_orders.specs.declared.desk.Command.{Command};
 ghost use Rattle.clock_book.specs.Books.{Book, new_book};
-ghost use Rattle.clock_book.specs.Fitting.{most_orders};
-ghost use Rattle.clock_book.specs.Handled.{after, replies};
+ghost use Rattle.clock_book.specs.Fitting.{IsFitting, HasRoom, most_orders};
+ghost use Rattle.clock_book.specs.Handled.{handled, after, replies};
 ghost use Rattle.clock_book.specs.InRange.{IsInRange, HasMoney, HasNumbers, submitted, moment_of, IsReply, NamesOneOf, NamesOrder};
 ghost use Rattle.clock_book.specs.Seen.{AreNumbered, given_out, learnt, seen_of};
 
@@ -43,7 +43,8 @@ pub fn numbers_stay_in_range()
 
 /// What a book in range replies to such commands of a moment is in range: each event is one of that moment, what it says was
 /// accepted or filled is in the ranges of orders and fills, a fill is one of the event's symbol, and an account is money. Where
-/// the commands are about orders that there are, each event names an order and its symbol.
+/// the commands are about orders that there are, each event names an order and its symbol. Any one command that may be given to the
+/// book is answered in range, whatever it asks for.
 pub fn replies_are_in_range()
     ensures replies { (most : ℕ) (at : ℤ) (book : Book) (commands : List Command) → IsInRange most book
         → Each (λ command. HasNumbers most command) commands
@@ -55,4 +56,7 @@ pub fn replies_are_in_range()
         → length book.orders + submitted commands ≤ most_orders → orders ≤ length book.orders
         → Each (λ command. NamesOneOf orders command) commands
         → Each NamesOrder (replies book commands) }
+    ensures fitting { (most : ℕ) (book : Book) (command : Command) → IsInRange most book
+        → IsFitting command → HasRoom (length book.orders) command
+        → Each (λ reply. IsReply (moment_of command) reply) (handled book command).replies }
 {}
