@@ -7,7 +7,7 @@ use Rattle.std.proofs.lemmas.Int.{ints}
 use Rattle.std.proofs.lemmas.Bool.Decides.{nat_tests}
 use Rattle.std.proofs.Math.Nat.{div-le_self}
 use Rattle.lean_fixed.specs.Moments.{first_moment}
-use Rattle.lean_fixed.specs.Ranges.{IsAtMost, IsPrice, IsFillPrice, IsMoney, IsPrintedMoment, IsWindow}
+use Rattle.lean_fixed.specs.Ranges.{IsAtMost, IsPrice, IsFillPrice, IsMoney, IsMoment, IsPrintedMoment, IsWindow}
 use Rattle.lean_fixed.specs.declared.money.Price.{Price}
 use Rattle.lean_fixed.specs.declared.time.Moment.{Moment}
 use Rattle.lean_fixed.specs.declared.time.Window.{Window}
@@ -51,7 +51,7 @@ use Rattle.clock_feeds.specs.Bars.{ends_at}
 use Rattle.clock_feeds.specs.Known.{feed_bars}
 use Rattle.clock_feeds.proofs.KeyLemmas.{known_sound}
 use Rattle.clock_book.specs.Books.{is_live}
-use Rattle.clock_book.specs.Fitting.{IsPriceBar, most_orders, submits}
+use Rattle.clock_book.specs.Fitting.{IsPriceBar, IsFitting, most_orders, submits}
 use Rattle.clock_book.specs.Handled.{after, replies}
 use Rattle.clock_book.specs.Seen.{Seen, seen_of, resting_of, live_of, AreNumbered}
 use Rattle.clock_book.specs.Submits.{has_price, has_limit}
@@ -67,7 +67,7 @@ use Rattle.clock_run.specs.Moments.{Part, in_turn, chosen, selection, told, equi
 use Rattle.clock_run.specs.Reports as reports
 use Rattle.clock_run.specs.Reports.{step_of}
 use Rattle.clock_run.specs.Worlds.{world_of}
-use Rattle.clock_run.specs.InRange.{HasBarsInRange, IsWorldInRange, IsStateInRange, IsLineInRange}
+use Rattle.clock_run.specs.InRange.{HasBarsInRange, IsWorldInRange, IsStateInRange, IsLineInRange, IsLineAt, StaysInRange}
 use Rattle.clock_run.proofs.EachLemmas.{each-through, each-append, each-take, each-if, each-map, each-flat_map}
 use Rattle.clock_run.proofs.NumberLemmas.{room-left}
 use Rattle.clock_run.proofs.OrderlyLemmas.{run-keeps}
@@ -314,10 +314,6 @@ event-line t event printed is of = record {
     by None some is = absurd (true≢false (sym some))
     by (Some symbol) some is = what-line symbol event.what is
 
--- a line where its moment can be printed
-abbrev pub IsLineAt : ℕ → Line → Type 0
-IsLineAt t line = IsPrintedMoment (pos t) → IsLineInRange line
-
 lines-told : (t : ℕ) (rs : List Reply) → Each (λ r. IsReply (pos t) r) rs → Each NamesOrder rs → Each (λ line. IsLineAt t line) (filter_map (told t) rs)
 lines-told t [] all names = tt
 lines-told t (reply.Event event ∷ rs) all names = ((λ printed. event-line t event printed all.0 names.0), lines-told t rs all.1 names.1)
@@ -325,10 +321,6 @@ lines-told t (reply.Account cash equity ∷ rs) all names = ((λ printed. all.0)
 lines-told t (reply.Done ∷ rs) all names = lines-told t rs all.1 names.1
 
 -- ---- the parts, one after the other
-
--- a part leaves a state in range, and prints lines in range
-abbrev Stays : ℕ → Ran State Line Halt → Type 0
-Stays t ran = IsStateInRange ran.state × Each (λ line. IsLineAt t line) ran.lines
 
 -- what handled commands leave and print, where some more requests are counted
 pub record Serves (t n : ℕ) (commands : List Command) (s : State) : Type 0 where
@@ -354,18 +346,18 @@ served-range t n commands s r all few room =
           (commands-named asks.most_asked (length s.book.orders) s.book commands r.book numbers fits (omega arith) names);
     }
 
-chosen-stays : (universe : UniversePlan) (t : ℕ) (symbols : List (List ℕ)) (s : State) → IsStateInRange s → Stays t (chosen universe t symbols s)
+chosen-stays : (universe : UniversePlan) (t : ℕ) (symbols : List (List ℕ)) (s : State) → IsStateInRange s → StaysInRange t (chosen universe t symbols s)
 chosen-stays universe t symbols s r = (
   record { book = r.book; equities = r.equities; orders = r.orders; requests = r.requests },
   each-map (λ line. IsLineAt t line) (added t) (take (room (actives s)) (additions symbols (actives s))) (λ symbol printed. tt),
 )
 
-selection-stays : (universe : Option UniversePlan) (t : ℕ) (rows : List CoarseRow) (s : State) → IsStateInRange s → Stays t (selection universe t rows s)
+selection-stays : (universe : Option UniversePlan) (t : ℕ) (rows : List CoarseRow) (s : State) → IsStateInRange s → StaysInRange t (selection universe t rows s)
 selection-stays None t rows s r = (r, tt)
 selection-stays (Some universe) t [] s r = (r, tt)
 selection-stays (Some universe) t (row ∷ rows) s r = chosen-stays universe t (selected (row ∷ rows) universe.rule) s r
 
-prices-stays : (t : ℕ) (known : Known) (s : State) → HasBarsInRange known → IsStateInRange s → Stays t (prices t known s)
+prices-stays : (t : ℕ) (known : Known) (s : State) → HasBarsInRange known → IsStateInRange s → StaysInRange t (prices t known s)
 prices-stays t known s has r =
     let commands : List Command = marks t (histories known s) ++ command.Match (moment t) ∷ [] in
     let given : Each (λ c. IsFromRule t (length s.book.orders) c) (marks t (histories known s) ++ command.Match (moment t) ∷ []) =
@@ -378,7 +370,7 @@ prices-stays t known s has r =
     (record { book = serves.book; equities = serves.equities; orders = omega (arith, serves.orders); requests = r.requests }, serves.lines)
 
 traded-stays : (t : ℕ) (asked : List Command) (s : State) → IsStateInRange s → Each (λ c. IsFromRule t (length s.book.orders) c) asked
-    → Stays t (traded t asked s)
+    → StaysInRange t (traded t asked s)
 traded-stays t asked s r all =
     let handled : List Command = take (most_requests - s.requests) asked in
     let fits : s.requests + length (take (most_requests - s.requests) asked) ≤ most_requests = room-left most_requests s.requests asked r.requests in
@@ -388,63 +380,66 @@ traded-stays t asked s r all =
     (submitted-few (take (most_requests - s.requests) asked)) fits in
     (record { book = serves.book; equities = serves.equities; orders = serves.orders; requests = fits }, serves.lines)
 
-trading-stays : (setup : Setup) (t : ℕ) (known : Known) (s : State) → IsStateInRange s → Stays t (trading setup t known s)
+trading-stays : (setup : Setup) (t : ℕ) (known : Known) (s : State) → IsStateInRange s → StaysInRange t (trading setup t known s)
 trading-stays setup t known s r =
     traded-stays t (requests setup.plan.rules (seen_of s.book) t (histories known s)) s r
     (all-asked t (length s.book.orders) setup.plan.rules (seen_of s.book) (histories known s) (live-within s.book.orders r.book.numbered))
 
-closing-stays : (hours : Entries) (t : ℕ) (s : State) → IsStateInRange s → Stays t (closing hours t s)
+closing-stays : (hours : Entries) (t : ℕ) (s : State) → IsStateInRange s → StaysInRange t (closing hours t s)
 closing-stays hours t s r = by (is_closing hours t)
   where
-    by : (b : Bool) → Stays t (if b then served t (command.Account (moment t) ∷ []) s else rests s)
+    by : (b : Bool) → StaysInRange t (if b then served t (command.Account (moment t) ∷ []) s else rests s)
     by true =
         let serves : Serves t 0 (command.Account (moment t) ∷ []) s =
         served-range t 0 (command.Account (moment t) ∷ []) s r (record { numbers = tt; at = refl; names = tt }, tt) (omega arith) (omega (arith, r.requests)) in
         (record { book = serves.book; equities = serves.equities; orders = omega (arith, serves.orders); requests = r.requests }, serves.lines)
     by false = (r, tt)
 
-removals-stays : (t : ℕ) (s : State) → IsStateInRange s → Stays t (removals t s)
+removals-stays : (t : ℕ) (s : State) → IsStateInRange s → StaysInRange t (removals t s)
 removals-stays t s r = (
   record { book = r.book; equities = r.equities; orders = r.orders; requests = r.requests },
   each-map (λ line. IsLineAt t line) (λ security. removed t (symbol_of security)) (filter (is_done_with (seen_of s.book)) s.securities) (λ security printed. tt),
 )
 
-before-stays : (t : ℕ) (first : Ran State Line Halt) (later : State → Ran State Line Halt) → Stays t first
-    → ((s : State) → IsStateInRange s → Stays t (later s)) → Stays t (before first later)
+before-stays : (t : ℕ) (first : Ran State Line Halt) (later : State → Ran State Line Halt) → StaysInRange t first
+    → ((s : State) → IsStateInRange s → StaysInRange t (later s)) → StaysInRange t (before first later)
 before-stays t first later here on = by first.stop refl
   where
-    by : (stop : Option Halt) → first.stop ≡ stop → Stays t (before first later)
+    by : (stop : Option Halt) → first.stop ≡ stop → StaysInRange t (before first later)
     by None is =
-        let next : Stays t (later first.state) = on first.state here.0 in
-        subst (λ z. Stays t (before (record { lines = first.lines; state = first.state; stop = z }) later)) (sym is)
+        let next : StaysInRange t (later first.state) = on first.state here.0 in
+        subst (λ z. StaysInRange t (before (record { lines = first.lines; state = first.state; stop = z }) later)) (sym is)
         (next.0, each-append (λ line. IsLineAt t line) first.lines (later first.state).lines here.1 next.1)
-    by (Some z) is = subst (λ z. Stays t (before (record { lines = first.lines; state = first.state; stop = z }) later)) (sym is) here
+    by (Some z) is = subst (λ z. StaysInRange t (before (record { lines = first.lines; state = first.state; stop = z }) later)) (sym is) here
 
-turn-stays : (t : ℕ) (parts : List Part) → Each (λ part. (s : State) → IsStateInRange s → Stays t (part s)) parts → (s : State) → IsStateInRange s
-    → Stays t (in_turn parts s)
+turn-stays : (t : ℕ) (parts : List Part) → Each (λ part. (s : State) → IsStateInRange s → StaysInRange t (part s)) parts → (s : State) → IsStateInRange s
+    → StaysInRange t (in_turn parts s)
 turn-stays t [] stay s r = (r, tt)
 turn-stays t (part ∷ parts) stay s r = before-stays t (part s) (in_turn parts) (stay.0 s r) (turn-stays t parts stay.1)
 
-moment-stays : (setup : Setup) (t : ℕ) (known : Known) (s : State) → HasBarsInRange known → IsStateInRange s → Stays t (moments.moment_of setup t known s)
-unfolding moments.moment_of
-moment-stays setup t known s has r =
-    turn-stays t (parts_of setup t known) (
-      selection-stays setup.plan.universe t known.coarse,
+pub parts-stay : (setup : Setup) (t : ℕ) (known : Known) → HasBarsInRange known
+    → Each (λ part. (s : State) → IsStateInRange s → StaysInRange t (part s)) (parts_of setup t known)
+parts-stay setup t known has = (
+  selection-stays setup.plan.universe t known.coarse,
+  (
+    (λ s r. prices-stays t known s has r),
+    (
+      trading-stays setup t known,
       (
-        (λ s r. prices-stays t known s has r),
+        closing-stays setup.hours t,
         (
-          trading-stays setup t known,
-          (
-            closing-stays setup.hours t,
-            (
-              removals-stays t,
-              ((λ s r. (r, tt)), tt),
-            ),
-          ),
+          removals-stays t,
+          ((λ s r. (r, tt)), tt),
         ),
       ),
-    )
-    s r
+    ),
+  ),
+)
+
+moment-stays : (setup : Setup) (t : ℕ) (known : Known) (s : State) → HasBarsInRange known → IsStateInRange s
+    → StaysInRange t (moments.moment_of setup t known s)
+unfolding moments.moment_of
+moment-stays setup t known s has r = turn-stays t (parts_of setup t known) (parts-stay setup t known has) s r
 
 pub moment-range : (setup : Setup) (t : ℕ) (known : Known) (s : State) → HasBarsInRange known → IsStateInRange s
     → IsStateInRange (moments.moment_of setup t known s).state
@@ -468,6 +463,27 @@ pub states-range : (setup : Setup) (world : World) (count : ℕ) → IsPlan setu
 states-range setup world count valid has =
     run-keeps IsStateInRange (step_of setup world) (λ t s r. moment-range setup t (world t) s (has t) r) count
     (first_moment setup.plan.window) (opening setup) (opening-range setup valid)
+
+-- ---- what is asked of the book may be
+
+fitting-given : (t orders : ℕ) (c : Command) → IsMoment (pos t) → IsFromRule t orders c → IsFitting c
+fitting-given t orders (command.Mark at symbol bar) m c = (subst IsMoment (sym c.at) m, c.numbers)
+fitting-given t orders (command.Match at) m c = subst IsMoment (sym c.at) m
+fitting-given t orders (command.Submit at request) m c = subst IsMoment (sym c.at) m
+fitting-given t orders (command.Update at id price) m c = subst IsMoment (sym c.at) m
+fitting-given t orders (command.Cancel at id) m c = subst IsMoment (sym c.at) m
+fitting-given t orders (command.Account at) m c = subst IsMoment (sym c.at) m
+
+pub marks-fit : (t : ℕ) (known : Known) (s : State) → HasBarsInRange known → IsMoment (pos t) → Each (λ c. IsFitting c) (marks t (histories known s))
+marks-fit t known s has m =
+    each-through (marks t (histories known s)) (λ c given. fitting-given t 0 c m given)
+    (marks-given t 0 known (histories known s) has (histories-given known s has))
+
+pub requests-fit : (setup : Setup) (t : ℕ) (known : Known) (s : State) → IsStateInRange s → IsMoment (pos t)
+    → Each (λ c. IsFitting c) (requests setup.plan.rules (seen_of s.book) t (histories known s))
+requests-fit setup t known s r m =
+    each-through (requests setup.plan.rules (seen_of s.book) t (histories known s)) (λ c given. fitting-given t (length s.book.orders) c m given)
+    (all-asked t (length s.book.orders) setup.plan.rules (seen_of s.book) (histories known s) (live-within s.book.orders r.book.numbered))
 
 -- ---- the world of a folder's files
 

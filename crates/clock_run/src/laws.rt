@@ -7,7 +7,7 @@ ghost use Rattle.clock_steps.specs.Runs.{rests, IsFrontOf};
 ghost use Rattle.lean_fixed.specs.declared.resolution.Resolution.{Resolution};
 ghost use Rattle.lean_fixed.specs.declared.time.Window.{Window};
 ghost use Rattle.lean_fixed.specs.Moments.{first_moment, last_moment};
-ghost use Rattle.lean_fixed.specs.Ranges.{IsPrintedMoment, IsWindow};
+ghost use Rattle.lean_fixed.specs.Ranges.{IsMoment, IsPrintedMoment, IsWindow};
 ghost use Rattle.lean_io.specs.Told.{Files};
 ghost use Rattle.lean_items.specs.declared.bad.Bad.{Bad};
 ghost use Rattle.lean_items.specs.declared.feed_key.FeedKey.{FeedKey};
@@ -17,13 +17,16 @@ ghost use Rattle.clock_feeds.specs.Ahead.{AreWellFormed, AgreeUntil};
 ghost use Rattle.clock_feeds.specs.Bars.{ends_at};
 ghost use Rattle.clock_run.specs.Known.{Known, World};
 ghost use Rattle.clock_run.specs.States.{Setup, State, opening, equity_key};
-ghost use Rattle.clock_run.specs.Moments.{moment_of};
+ghost use Rattle.clock_run.specs.Moments.{marks, parts_of, moment_of};
 ghost use Rattle.rule_strategy.specs.Validity.{IsPlan};
 ghost use Rattle.clock_run.specs.Orderly.{IsOrderly};
+ghost use Rattle.clock_book.specs.Fitting.{IsFitting};
 ghost use Rattle.clock_book.specs.InRange.{HasMoney};
-ghost use Rattle.clock_run.specs.InRange.{HasBarsInRange, IsWorldInRange, IsStateInRange, IsLineInRange};
+ghost use Rattle.clock_book.specs.Seen.{seen_of};
+ghost use Rattle.clock_run.specs.InRange.{HasBarsInRange, IsWorldInRange, IsStateInRange, IsLineInRange, StaysInRange};
 ghost use Rattle.clock_run.specs.Idle.{IsIdle, IsQuiet, IsSettled};
-ghost use Rattle.clock_run.specs.Histories.{History, given_with, closes, fresh_bar};
+ghost use Rattle.clock_run.specs.Histories.{History, histories, given_with, closes, fresh_bar};
+ghost use Rattle.clock_run.specs.Requests.{requests};
 ghost use Rattle.clock_run.specs.Worlds.{world_of};
 ghost use Rattle.clock_run.specs.Reports.{moments, backtest};
 
@@ -101,8 +104,11 @@ pub fn states_are_orderly()
 /// book has the quantity, the price and the fee of a fill, each mark is a bar in range, each order that was accepted has a
 /// quantity and the prices of its kind, what a refused one asked for lies within 10^18 either way, and the equities of the close
 /// lines are money. So cash, equity, fees and realised profit are money. The bars of a folder's files are in range, so this holds
-/// of every backtest over them. What a moment prints is in range, too: each event that it prints has a line.
+/// of every backtest over them. What a moment prints is in range, too: each event that it prints has a line. Each part of a
+/// moment keeps this, and its marks and what its rules ask for may be given to a book.
 pub fn amounts_stay_in_range()
+    ensures parts { (setup : Setup) (t : ℕ) (known : Known) → HasBarsInRange known
+        → Each (λ part. (s : State) → IsStateInRange s → StaysInRange t (part s)) (parts_of setup t known) }
     ensures moment { (setup : Setup) (t : ℕ) (known : Known) (s : State) → HasBarsInRange known
         → IsStateInRange s → IsStateInRange (moment_of setup t known s).state }
     ensures lines { (setup : Setup) (t : ℕ) (known : Known) (s : State) → HasBarsInRange known
@@ -111,6 +117,11 @@ pub fn amounts_stay_in_range()
     ensures states { (setup : Setup) (world : World) (count : ℕ) → IsPlan setup.plan
         → IsWorldInRange world → IsStateInRange (moments setup world count).state }
     ensures sums { (s : State) → IsStateInRange s → HasMoney s.book }
+    ensures marks { (t : ℕ) (known : Known) (s : State) → HasBarsInRange known → IsMoment (pos t)
+        → Each (λ command. IsFitting command) (marks t (histories known s)) }
+    ensures requests { (setup : Setup) (t : ℕ) (known : Known) (s : State) → IsStateInRange s
+        → IsMoment (pos t)
+        → Each (λ command. IsFitting command) (requests setup.plan.rules (seen_of s.book) t (histories known s)) }
     ensures files { (files : Files) (hours : Entries) (window : Window) → LieInDays hours
         → IsWindow window → IsWorldInRange (world_of files hours window) }
 {}
