@@ -101,6 +101,7 @@ fn submit_all(book: &mut Book, symbol: &Symbol, live: u64, out: &mut Vec<Reply>)
 }
 
 // What is done in each round.
+#[derive(Drop)]
 struct Work {
     marks: bool,
     matches: bool,
