@@ -1,23 +1,29 @@
 #!/usr/bin/env python3
 """Measures whether reading an algorithm file takes time in proportion to its bytes.
 
-It needs the kit's `rt`. A small program is built beside copies of the crates that it stands on, without their proofs and
-with the checks of `rt try`, so its times say how they grow and no more. It makes files of 64 KiB to 1 MiB in memory: of
-different unknown keys, of one long array, of one long text, and of tables of securities. Of each it prints the least
-time of a reading in nanoseconds a byte, which must not rise with the size.
+It needs the kit. A small program is built over copies of the crates that it stands on, with what the checkout has kept of
+their proofs: run `rt check` in crates/rule_strategy first, which proves what is not proved yet. It makes files in memory:
+of different unknown keys, of one long array, of one long text, and of tables of securities. Of each it prints the least
+time of five readings in nanoseconds a byte, which must not rise with the size. The sizes are the words of the script, in bytes, and
+64 KiB, 256 KiB and 1 MiB where there are none.
 """
 import pathlib
 import shutil
 import subprocess
+import sys
 import tempfile
 
 TOP = pathlib.Path(__file__).resolve().parent.parent
+SIZES = ["65536", "262144", "1048576"]
 PROGRAM = r"""
 #![tactic(auto)]
+ghost use Rattle.std.specs.Prelude.{◌<◌};
 
 use anyhow::Result;
+use lean_fixed::read_digits;
 use rule_strategy::Plan;
 use std::alloc::Global;
+use std::env;
 use std::fmt::Write;
 use std::time::Instant;
 
@@ -54,23 +60,32 @@ fn file_of(alloc: Global, shape: u32, size: usize) -> Result<String> {
     Ok(file)
 }
 
+fn measure(rt: &HostRuntime, shape: u32, size: usize) -> Result<()>
+    requires { shape < 4 }
+{
+    let file = file_of(rt.alloc(), shape, size)?;
+    let mut least = u128::MAX;
+    for _ in 0..5 {
+        let start = Instant::now(rt)?;
+        let read = Plan::read(rt.alloc(), file.as_bytes());
+        least = least.min(start.elapsed(rt)?.as_nanos());
+        if read.is_ok() {
+            println!(rt; "a plan")?;
+        }
+    }
+    let bytes = file.len();
+    let each = least / (bytes as u128).max(1);
+    let names = ["unknown keys", "long array", "long text", "securities"];
+    println!(rt; "{} {bytes} bytes: {each} ns a byte", names[shape as usize])?;
+    Ok(())
+}
+
 fn main(rt: HostRuntime) -> Result<()> {
-    let shapes = ["unknown keys", "long array", "long text", "securities"];
-    for shape in 0..4u32 {
-        for size in [65_536usize, 262_144, 1_048_576] {
-            let file = file_of(rt.alloc(), shape, size)?;
-            let mut least = u128::MAX;
-            for _ in 0..2 {
-                let start = Instant::now(&rt)?;
-                let read = Plan::read(rt.alloc(), file.as_bytes());
-                least = least.min(start.elapsed(&rt)?.as_nanos());
-                if read.is_ok() {
-                    println!(rt; "a plan")?;
-                }
+    for word in env::args(&rt)? {
+        if let Some(size) = read_digits(word.as_bytes()) {
+            for shape in 0..4u32 {
+                measure(&rt, shape, size as usize)?;
             }
-            let bytes = file.len();
-            let each = least / (bytes as u128).max(1);
-            println!(rt; "{} {bytes} bytes: {each} ns a byte", shapes[shape as usize])?;
         }
     }
     Ok(())
@@ -96,13 +111,14 @@ def main():
         folder = pathlib.Path(name)
         crates = folder / "crates"
         for crate in crates_needed:
-            shutil.copytree(TOP / "crates" / crate, crates / crate, ignore=shutil.ignore_patterns("out", "must-fail"))
+            shutil.copytree(TOP / "crates" / crate, crates / crate, ignore=shutil.ignore_patterns("must-fail"))
         program = crates / "plan_bench/src"
         program.mkdir(parents=True)
         (program / "main.rt").write_text(PROGRAM.lstrip())
-        text = "\n".join(crates_needed.values()) + "\nplan_bench: rule_strategy anyhow\n"
+        text = "\n".join(crates_needed.values()) + "\nplan_bench: rule_strategy lean_fixed anyhow\n"
         (folder / "crates.txt").write_text(text)
-        subprocess.run(["rt", "try", "--seconds", "600"], cwd=crates / "plan_bench", check=True)
+        shutil.copy(TOP / "HANDLES", folder / "HANDLES")
+        subprocess.run(["rt", "run", "--", *(sys.argv[1:] or SIZES)], cwd=crates / "plan_bench", check=True)
 
 
 if __name__ == "__main__":

@@ -6,7 +6,7 @@ ghost use Rattle.clock_book.specs.Fitting.{IsFitting, IsPriceBar};
 use crate::cases::{number, price, symbol, within};
 use exchange_hours::Hours;
 use lean_fixed::{Moment, Money, NoMemory, Price, Shares, Symbol, laws};
-use lean_orders::{Cause, Command, Kind, OrderEvent, PriceBar, Reply, Request, What};
+use lean_orders::{Command, Kind, OrderEvent, PriceBar, Reply, Request, What};
 use order_book::Book;
 use std::alloc::Global;
 use std::fmt::Write;
@@ -14,15 +14,8 @@ use std::str;
 use std::sync::Arc;
 use std::test::Fail;
 use test_cases::cases::check;
+use test_words::{HOURS, cause_word, kind_word};
 use trade_costs::Costs;
-
-// Monday to Friday, 09:30 to 16:00.
-const HOURS: &str = r#"{"entries":{"Equity-usa-[*]":{
-"monday":[{"start":"09:30:00","end":"16:00:00","state":"market"}],
-"tuesday":[{"start":"09:30:00","end":"16:00:00","state":"market"}],
-"wednesday":[{"start":"09:30:00","end":"16:00:00","state":"market"}],
-"thursday":[{"start":"09:30:00","end":"16:00:00","state":"market"}],
-"friday":[{"start":"09:30:00","end":"16:00:00","state":"market"}]}}}"#;
 
 // 00:00 of Monday, 2013-10-07, and the minute before it.
 const MONDAY: i64 = 23_018_400;
@@ -171,27 +164,6 @@ pub fn handle(book: &mut Book, command: &Command, out: &mut Vec<Reply>) -> Resul
     match book.handle(command, out) {
         Ok(()) => Ok(()),
         Err(NoMemory) => Err(Fail::from("memory")),
-    }
-}
-
-fn kind_word(kind: Kind) -> &'static str {
-    match kind {
-        Kind::Market => "market",
-        Kind::Limit => "limit",
-        Kind::Stop => "stop",
-        Kind::AtOpen => "open",
-        Kind::StopLimit => "stop-limit",
-    }
-}
-
-fn cause_word(cause: Cause) -> &'static str {
-    match cause {
-        Cause::Quantity => "quantity",
-        Cause::NoPrice => "no-price",
-        Cause::PriceForm => "price",
-        Cause::BuyingPower => "buying-power",
-        Cause::Unknown => "unknown",
-        Cause::Closed => "closed",
     }
 }
 

@@ -10,7 +10,7 @@ ghost use Rattle.desk_tests.specs.Calls.{orders_of};
 use crate::serving::serve;
 use exchange_hours::Hours;
 use lean_fixed::{Moment, Money, Price, Shares, Symbol, laws};
-use lean_orders::{Cause, Command, Heard, Kind, OrderEvent, PriceBar, Reply, Request, What};
+use lean_orders::{Command, Heard, Kind, OrderEvent, PriceBar, Reply, Request, What};
 use order_book::Book;
 use order_desk::SerialDesk;
 use std::alloc::Global;
@@ -18,15 +18,8 @@ use std::fmt::Write;
 use std::str;
 use std::sync::Arc;
 use std::test::Fail;
+use test_words::{HOURS, cause_word};
 use trade_costs::Costs;
-
-// From Monday to Friday, 09:30 to 16:00.
-const HOURS: &str = r#"{"entries":{"Equity-usa-[*]":{
-"monday":[{"start":"09:30:00","end":"16:00:00","state":"market"}],
-"tuesday":[{"start":"09:30:00","end":"16:00:00","state":"market"}],
-"wednesday":[{"start":"09:30:00","end":"16:00:00","state":"market"}],
-"thursday":[{"start":"09:30:00","end":"16:00:00","state":"market"}],
-"friday":[{"start":"09:30:00","end":"16:00:00","state":"market"}]}}}"#;
 
 // An unknown id, a symbol without a price, no quantity, and then an order that was refused, and the account.
 const REFUSED: &str = "\
@@ -167,24 +160,13 @@ fn new_book(alloc: Global) -> Result<Book, Fail>
     Ok(Book::new(alloc, Money(10_000_000), costs, 1, hours))
 }
 
-fn cause_word(cause: &Cause) -> &'static str {
-    match cause {
-        Cause::Quantity => "quantity",
-        Cause::NoPrice => "no-price",
-        Cause::PriceForm => "price",
-        Cause::BuyingPower => "buying-power",
-        Cause::Unknown => "unknown",
-        Cause::Closed => "closed",
-    }
-}
-
 fn say_what(what: &What, said: &mut String) -> Result<(), Fail> {
     match what {
         What::Submitted(_, quantity, _, _) => writeln!(said, "submitted {}", quantity.0)?,
         What::Updated(price) => writeln!(said, "updated {}", price.0)?,
         What::Filled(fill) => writeln!(said, "filled {} {}", fill.quantity.0, fill.price.0)?,
         What::Canceled => writeln!(said, "canceled")?,
-        What::Invalid(cause) => writeln!(said, "{}", cause_word(cause))?,
+        What::Invalid(cause) => writeln!(said, "{}", cause_word(*cause))?,
     }
     Ok(())
 }
@@ -205,16 +187,11 @@ fn say_event(event: &OrderEvent, said: &mut String) -> Result<(), Fail> {
 fn say(heard: &Heard, said: &mut String) -> Result<(), Fail> {
     write!(said, "{} ", heard.ticket.0)?;
     match &heard.reply {
-        Reply::Event(event) => say_event(event, said),
-        Reply::Account(cash, equity) => {
-            writeln!(said, "account {} {}", cash.0, equity.0)?;
-            Ok(())
-        }
-        Reply::Done => {
-            writeln!(said, "done")?;
-            Ok(())
-        }
+        Reply::Event(event) => say_event(event, said)?,
+        Reply::Account(cash, equity) => writeln!(said, "account {} {}", cash.0, equity.0)?,
+        Reply::Done => writeln!(said, "done")?,
     }
+    Ok(())
 }
 
 // What is heard of some commands to a new book, and then of others.

@@ -1,7 +1,6 @@
 //! What a rule asks for: the commands for one security at one moment.
 
 use crate::cases::check;
-use crate::texts::kind_word;
 use lean_fixed::{Moment, Money, Price, Shares, Symbol};
 use lean_items::Bar;
 use lean_orders::{Command, Kind, Request, Resting};
@@ -11,6 +10,7 @@ use std::alloc::Global;
 use std::fmt::Write;
 use std::str;
 use std::test::Fail;
+use test_words::kind_word;
 
 // A view at 09:30 of 2013-10-07, in which the one window of an expression has this value.
 fn view(alloc: Global, value: Option<i64>) -> Result<View, Fail> {

@@ -31,7 +31,8 @@ fn append_line(line: &str, file: &mut String) -> Result<(), Fail> {
     Ok(())
 }
 
-fn compare(alloc: Global, file: &str, answer: &str, wanted: &str) -> Result<(), Fail> {
+/// That a file is answered as it should be.
+pub(crate) fn compare(alloc: Global, file: &str, answer: &str, wanted: &str) -> Result<(), Fail> {
     if answer == wanted {
         return Ok(());
     }

@@ -1,7 +1,9 @@
 //! Algorithm files of whole backtests, and the plans that they are.
 
-use crate::cases::check;
+use crate::cases::{check, compare};
 use crate::texts::plan_text;
+use std::alloc::Global;
+use std::fmt::Write;
 use std::test::Fail;
 
 const FILES: &str = r#"
@@ -429,9 +431,75 @@ do = "order"
 kind = "market"
 quantity = "0"
 = 15985 15987 10000000 2 0 0 0 universe:minute:false:-:1:0:0:0 any:market:1
+start = "20131007"
+end = "20131007"
+cash = "1000"
+[[markets]]
+name = "usa"
+zone = "EST5EDT,M3.2.0,M11.1.0"
+[[securities]]
+symbol = "SAP"
+market = "xetra"
+resolution = "minute"
+[[rules]]
+when = "time == 931"
+do = "order"
+symbol = "SAP"
+kind = "market"
+quantity = "1"
+= unknown markets
 "#;
 
 #[test]
 fn reads_files_of_backtests(rt: HostRuntime) -> Result<(), Fail> {
     check(rt.alloc(), FILES, plan_text)
+}
+
+const WINDOW: &str = "start = '20131007'\nend = '20131231'\ncash = '1000'\n";
+
+const UNIVERSE: &str = "[universe]\nresolution = 'minute'\ntop = 1\n";
+
+const RULE: &str = "[[rules]]\nwhen = '1 == 1'\ndo = 'order'\nkind = 'market'\nquantity = '0'\n";
+
+// Appends so many securities to a file, and to the text of the plan that it is.
+fn append_securities(count: u32, file: &mut String, plan: &mut String) -> Result<(), Fail> {
+    for number in 0..count {
+        writeln!(
+            file,
+            "[[securities]]\nsymbol = 'A{number}'\nresolution = 'minute'"
+        )?;
+        write!(plan, " A{number}:minute:true:-")?;
+    }
+    Ok(())
+}
+
+// Appends the greatest number of rules.
+fn append_rules(file: &mut String, plan: &mut String) -> Result<(), Fail> {
+    for _ in 0..64 {
+        file.push_str(RULE)?;
+        plan.push_str(" any:market:0")?;
+    }
+    Ok(())
+}
+
+// That a file of so many securities, perhaps with a universe, and 64 rules is read as its plan.
+fn read_large(alloc: Global, securities: u32, universe: bool) -> Result<(), Fail> {
+    let mut file = String::from_str(alloc, WINDOW)?;
+    let mut plan = String::from_str(alloc, "15985 16070 10000000 2 0 0 0")?;
+    append_securities(securities, &mut file, &mut plan)?;
+    if universe {
+        file.push_str(UNIVERSE)?;
+        plan.push_str(" universe:minute:true:-:1:0:0:0")?;
+    }
+    append_rules(&mut file, &mut plan)?;
+    let read = plan_text(alloc, &file)?;
+    compare(alloc, &file, &read, &plan)
+}
+
+#[test]
+fn reads_large_files(rt: HostRuntime) -> Result<(), Fail> {
+    let alloc = rt.alloc();
+    read_large(alloc, 1, false)?;
+    read_large(alloc, 255, true)?;
+    read_large(alloc, 256, true)
 }

@@ -1,13 +1,12 @@
 //! Plans and faults as text.
 
 use lean_fixed::Resolution;
-use lean_orders::Kind;
-use rule_lang::RuleError;
 use rule_strategy::{Action, KeyText, Part, Plan, PlanFault, Rule, Security, UniversePlan};
 use std::alloc::Global;
 use std::fmt::Write;
 use std::str;
 use std::test::Fail;
+use test_words::{error_word, kind_word};
 
 /// The plan that a file is, or its first fault.
 pub(crate) fn plan_text(alloc: Global, file: &str) -> Result<String, Fail> {
@@ -98,17 +97,6 @@ fn action_word(action: &Action) -> &'static str {
     }
 }
 
-/// The word for a kind of orders.
-pub(crate) fn kind_word(kind: Kind) -> &'static str {
-    match kind {
-        Kind::Market => "market",
-        Kind::Limit => "limit",
-        Kind::Stop => "stop",
-        Kind::AtOpen => "open",
-        Kind::StopLimit => "stop-limit",
-    }
-}
-
 fn fault_text(alloc: Global, fault: &PlanFault) -> Result<String, Fail> {
     match fault {
         PlanFault::Toml => Ok(String::from_str(alloc, "toml")?),
@@ -136,15 +124,5 @@ fn part_word(part: Part) -> &'static str {
         Part::Quantity => "quantity",
         Part::Price => "price",
         Part::Limit => "limit",
-    }
-}
-
-fn error_word(error: RuleError) -> &'static str {
-    match error {
-        RuleError::Token => "token",
-        RuleError::Number => "number",
-        RuleError::Syntax => "syntax",
-        RuleError::Depth => "depth",
-        RuleError::WrongType => "type",
     }
 }

@@ -62,11 +62,5 @@ pub fn take_feed<G: Feed>(alloc: Global, feed: &mut G) -> Result<Vec<Item>, NoMe
 fn is_last(item: &Item) -> bool
     ensures { result ≡ is_last item.now }
 {
-    match item {
-        Item::Bar(_) => false,
-        Item::Coarse(_, _) => false,
-        Item::Bad(_) => true,
-        Item::Faulted => true,
-        Item::End => true,
-    }
+    matches!(item, Item::Bad(_) | Item::Faulted | Item::End)
 }

@@ -1,6 +1,7 @@
-use rule_lang::{Expr, RuleError, RuleFault, Want};
+use rule_lang::{Expr, RuleFault, Want};
 use std::alloc::Global;
 use std::test::Fail;
+use test_words::error_word;
 
 // The expression that a text of the table is.
 pub fn read(alloc: Global, text: &str, want: Want) -> Result<Result<Expr, RuleFault>, Fail> {
@@ -15,15 +16,5 @@ pub fn fault_text(alloc: Global, fault: RuleFault) -> Result<String, Fail> {
     match fault {
         RuleFault::At(error, at) => Ok(format!(in alloc; "{} {at}", error_word(error))?),
         RuleFault::NoMemory => Ok(String::from_str(alloc, "no memory")?),
-    }
-}
-
-fn error_word(error: RuleError) -> &'static str {
-    match error {
-        RuleError::Token => "token",
-        RuleError::Number => "number",
-        RuleError::Syntax => "syntax",
-        RuleError::Depth => "depth",
-        RuleError::WrongType => "type",
     }
 }
