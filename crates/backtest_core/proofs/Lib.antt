@@ -1,0 +1,5 @@
+pub mod PhaseLemmas
+pub mod PartLemmas
+pub mod StartLemmas
+pub mod MomentLemmas
+pub mod FollowLemmas

@@ -1,0 +1,10 @@
+//! One moment of a backtest, computed: bars and coarse rows in, commands out, replies in, lines out.
+#![tactic(auto)]
+
+mod following;
+pub mod laws;
+mod phase;
+mod watched;
+mod watching;
+
+pub use phase::Phase;
