@@ -1,7 +1,6 @@
 -- A whole moment of a core, and the moment of the definition in its parts.
 use Rattle.std.proofs.Common.{◌≡◌, ℕ, ◌-◌, List, [], ◌∷◌, ◌++◌, Bool, true, false, refl, ap, sym, subst, ◌∙◌}
 use Rattle.std.specs.Prelude.{Option, Some, None, if◌then◌else◌, length, nat_lt}
-use Rattle.std.specs.Option.{option_map_or}
 use Rattle.std.proofs.lemmas.List.{append-nil, append_assoc}
 use Rattle.lean_items.specs.declared.arrival.Arrival.{Arrival}
 use Rattle.exchange_hours.specs.Entries.{Entries}
@@ -20,12 +19,12 @@ use Rattle.clock_run.specs.Moments.{in_turn, selection, served, prices, most_req
 use Rattle.backtest_core.specs.declared.phase.Phase.{Phase}
 use Rattle.backtest_core.specs.declared.phase.Phase.TheVariants.{Prices, Rules, Close}
 use Rattle.backtest_core.specs.Standing.{standing_of, named_all}
-use Rattle.backtest_core.specs.Inside.{Inside, same_phase, arrived, is_over_in, joining_all, closed, lines_closed}
+use Rattle.backtest_core.specs.Inside.{Inside, begins, arrived, is_over_in, joining_all, closed, lines_closed}
 use Rattle.backtest_core.specs.Whole.{through}
 use Rattle.backtest_core.specs.Made.{Ties, priced, traded_on, closed_on, left_behind, lines_behind, core_behind}
 use Rattle.backtest_core.proofs.PhaseLemmas.{IsBefore}
 use Rattle.backtest_core.proofs.PartLemmas.{Joins, prices-pass, trading-pass, closing-pass, over-is, closed-lines, closed-standing}
-use Rattle.backtest_core.proofs.StartLemmas.{Begins, begins}
+use Rattle.backtest_core.proofs.StartLemmas.{Begins, begins as begins_at}
 
 five-parts : {A : Type 0} (a b c d e : List A) → (((a ++ b) ++ c) ++ d) ++ e ≡ a ++ (((b ++ c) ++ d) ++ e)
 five-parts a b c d e =
@@ -34,9 +33,8 @@ five-parts a b c d e =
     ∙ (ap (λ x. x ++ e) (append_assoc a (b ++ c) d)
     ∙ append_assoc a ((b ++ c) ++ d) e))
 
-is-before : (phase : Phase) (i : Inside) (other : Option Phase) → i.phase ≡ other → option_map_or (same_phase phase) other false ≡ false
-    → IsBefore phase i
-is-before phase i other is differs = ap (λ p. option_map_or (same_phase phase) p false) is ∙ differs
+is-before : (phase : Phase) (i : Inside) (other : Option Phase) → i.phase ≡ other → begins phase other ≡ true → IsBefore phase i
+is-before phase i other is before = ap (begins phase) is ∙ before
 
 -- what a core does over one moment
 pub record Makes (setup : Setup) (t : ℕ) (known : Known) (n : ℕ) (i : Inside) (s : State) : Type 0 where
@@ -86,7 +84,7 @@ pub makes-lines : (setup : Setup) (t : ℕ) (before known : Known) (slice : List
     → lines_closed (core_behind setup t known (selection setup.plan.universe t known.coarse s).state (arrived t slice (standing_of setup s before)))
     ≡ (selection setup.plan.universe t known.coarse s).lines ++ lines_behind setup t known (selection setup.plan.universe t known.coarse s).state
 makes-lines setup t before known slice s ties =
-    let b = begins setup t before known slice s ties in
+    let b = begins_at setup t before known slice s ties in
     let one = selection setup.plan.universe t known.coarse s in
     (makes setup t s.feeds known (arrived t slice (standing_of setup s before)) one b).lines
     ∙ ap (λ ls. ls ++ lines_behind setup t known one.state) b.lines
@@ -98,7 +96,7 @@ pub makes-standing : (setup : Setup) (t : ℕ) (before known : Known) (slice : L
     ≡ standing_of setup (left_behind setup t known (selection setup.plan.universe t known.coarse s).state) known
 makes-standing setup t before known slice s ties =
     (makes setup t s.feeds known (arrived t slice (standing_of setup s before)) (selection setup.plan.universe t known.coarse s)
-    (begins setup t before known slice s ties)).stands
+    (begins_at setup t before known slice s ties)).stands
 
 pub limit-of-requests : (setup : Setup) (t : ℕ) (before known : Known) (slice : List Arrival) (s : State) → Ties setup t before known slice s
     → (trading setup t known (priced t known (selection setup.plan.universe t known.coarse s).state)).stop
@@ -107,7 +105,7 @@ pub limit-of-requests : (setup : Setup) (t : ℕ) (before known : Known) (slice 
 limit-of-requests setup t before known slice s ties =
     let one = selection setup.plan.universe t known.coarse s in
     ap (λ over. if over then Some too_many_requests else None)
-    (sym (makes setup t s.feeds known (arrived t slice (standing_of setup s before)) one (begins setup t before known slice s ties)).over)
+    (sym (makes setup t s.feeds known (arrived t slice (standing_of setup s before)) one (begins_at setup t before known slice s ties)).over)
 
 -- the definition in its parts
 module _ {S L Z : Type 0} where

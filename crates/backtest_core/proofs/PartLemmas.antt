@@ -1,7 +1,7 @@
 -- A core follows the definition part by part. The securities that are added at a moment are followed only behind it: they are
 -- silent and unmarked within it.
 use Rattle.std.proofs.Common.{◌≡◌, ℕ, ◌+◌, ◌-◌, List, [], ◌∷◌, ◌++◌, Bool, true, false, refl, ap, sym, subst, ◌∙◌}
-use Rattle.std.specs.Prelude.{Some, length, cond, not, nat_lt, if◌then◌else◌, map, filter, flat_map, take, ℤ, pos, ◌==◌, ◌&&◌}
+use Rattle.std.specs.Prelude.{Some, length, cond, not, nat_lt, if◌then◌else◌, map, filter, flat_map, take, find, ℤ, pos, ◌==◌, ◌&&◌}
 use Rattle.std.specs.List.{fold, filter_map, AllByRecursion as Each}
 use Rattle.std.specs.Option.{option_to_list}
 use Rattle.std.specs.Ordering.{int_eq}
@@ -12,6 +12,7 @@ use Rattle.exchange_hours.specs.Grid.{is_closing}
 use Rattle.exchange_hours.specs.Sessions.{moment}
 use Rattle.lean_orders.specs.declared.desk.Command.{Command}
 use Rattle.lean_orders.specs.declared.desk.Command.TheVariants.{Match, Account}
+use Rattle.portfolio.proofs.SymbolLemmas.{same_self}
 use Rattle.rule_strategy.specs.declared.rule.Rule.{Rule}
 use Rattle.clock_steps.specs.Runs.{rests}
 use Rattle.clock_book.specs.Handled.{after, replies}
@@ -28,7 +29,7 @@ use Rattle.clock_run.proofs.EachLemmas.{each-through, filter-none, filter-others
 use Rattle.clock_run.proofs.IdleLemmas.{marks-quiet, rule-quiet}
 use Rattle.backtest_core.specs.declared.phase.Phase.{Phase}
 use Rattle.backtest_core.specs.declared.phase.Phase.TheVariants.{Prices, Rules, Close}
-use Rattle.backtest_core.specs.Standing.{Followed, Standing, history, with_feed, named_all, followed_of, standing_of}
+use Rattle.backtest_core.specs.Standing.{Followed, Standing, history, with_feed, waits_as, without_first, named_as, named, named_all, followed_of, standing_of}
 use Rattle.backtest_core.specs.Inside.{Inside, histories_in, asked, commands_of, is_over_in, leaving, closed, lines_closed}
 use Rattle.backtest_core.specs.Whole.{through}
 use Rattle.backtest_core.proofs.PhaseLemmas.{requests_behind, IsBefore, ended, through-ended}
@@ -88,6 +89,14 @@ Joins n [] (x ∷ xs) = ⊥
 Joins n (w ∷ ws) [] = ⊥
 Joins n (w ∷ ws) (x ∷ xs) = (with_feed n w ≡ x) × Joins (n + 1) ws xs
 
+-- the first that waits is named first
+named-first : (n : ℕ) (w : Subscription) (ws : List Subscription) (v : Standing)
+    → named (symbol_of w) n (record v { waiting = w ∷ ws })
+    ≡ record v { waiting = ws; followed = v.followed ++ fresh_of (with_feed n w) ∷ [] }
+named-first n w ws v = λ j.
+    named_as n (cond (same_self (symbol_of w) j) ws (w ∷ without_first (symbol_of w) ws))
+    (cond (same_self (symbol_of w) j) (Some w) (find (waits_as (symbol_of w)) ws)) (record v { waiting = w ∷ ws })
+
 named-joins : (n : ℕ) (ws xs : List Subscription) (v : Standing) → Joins n ws xs
     → named_all n ws (record v { waiting = ws }) ≡ record v { waiting = []; followed = v.followed ++ map (λ x. fresh_of x) xs }
 unfolding named_all
@@ -96,7 +105,8 @@ named-joins n [] (x ∷ xs) v joins = elim joins [ ]
 named-joins n (w ∷ ws) [] v joins = elim joins [ ]
 named-joins n (w ∷ ws) (x ∷ xs) v joins =
     let first = record v { followed = v.followed ++ fresh_of (with_feed n w) ∷ [] } in
-    named-joins (n + 1) ws xs first joins.1
+    ap (named_all (n + 1) ws) (named-first n w ws v)
+    ∙ named-joins (n + 1) ws xs first joins.1
     ∙ (λ j. record v { waiting = []; followed = (v.followed ++ fresh_of (joins.0 j) ∷ []) ++ map (λ x. fresh_of x) xs })
     ∙ (λ j. record v { waiting = []; followed = append_assoc v.followed (fresh_of x ∷ []) (map (λ x. fresh_of x) xs) j })
 

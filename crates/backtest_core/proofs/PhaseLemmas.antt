@@ -1,8 +1,7 @@
 -- A whole phase: its commands are given, and then the replies are heard.
-use Rattle.std.proofs.Common.{◌≡◌, ℕ, suc, ◌+◌, List, [], ◌∷◌, ◌++◌, false, refl, ap, sym, ◌∙◌, arith}
+use Rattle.std.proofs.Common.{◌≡◌, ℕ, suc, ◌+◌, List, [], ◌∷◌, ◌++◌, true, refl, ap, sym, ◌∙◌, arith}
 use Rattle.std.specs.Prelude.{Option, Some, None, length, cond}
 use Rattle.std.specs.List.{fold, filter_map}
-use Rattle.std.specs.Option.{option_map_or}
 use Rattle.std.proofs.lemmas.List.{append-nil, append_assoc}
 use Rattle.std.proofs.lemmas.List.Elements.{filter_map-append}
 use Rattle.lean_orders.specs.declared.desk.Command.{Command}
@@ -13,7 +12,7 @@ use Rattle.clock_book.specs.Seen.{given_out, learnt}
 use Rattle.clock_run.specs.Moments.{told}
 use Rattle.backtest_core.specs.declared.phase.Phase.{Phase}
 use Rattle.backtest_core.specs.declared.phase.Phase.TheVariants.{Prices, Rules, Close}
-use Rattle.backtest_core.specs.Inside.{Inside, same_phase, commands_of, is_over_in, entered, counted_in, hearing}
+use Rattle.backtest_core.specs.Inside.{Inside, begins, commands_of, is_over_in, entered, counted_in, hearing}
 use Rattle.backtest_core.specs.Whole.{given_all, heard_all, through}
 
 -- so many more requests
@@ -81,7 +80,7 @@ heard-all (r ∷ rs) i =
 
 -- a phase that has not begun
 abbrev pub IsBefore : Phase → Inside → Type 0
-IsBefore phase i = option_map_or (same_phase phase) i.phase false ≡ false
+IsBefore phase i = begins phase i.phase ≡ true
 
 -- a core behind a phase, with its commands and the replies to them
 abbrev pub ended : Phase → List Command → List Reply → Inside → Inside
@@ -99,7 +98,7 @@ ended phase cs rs i = record i {
 entered-is : (phase : Phase) (i : Inside) → IsBefore phase i
     → entered phase i ≡ record i { phase = Some phase; left = commands_of phase i; over = is_over_in phase i }
 entered-is phase i before =
-    ap (λ b. cond b i (record i { phase = Some phase; left = commands_of phase i; over = is_over_in phase i })) before
+    ap (λ b. cond b (record i { phase = Some phase; left = commands_of phase i; over = is_over_in phase i }) i) before
 
 pub through-ended : (phase : Phase) (book : Book) (i : Inside) → IsBefore phase i
     → through phase book i ≡ ended phase (commands_of phase i) (replies book (commands_of phase i)) i

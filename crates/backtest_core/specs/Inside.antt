@@ -120,17 +120,21 @@ is_over_in Prices i = false
 is_over_in Rules i = nat_lt (most_requests - i.standing.requests) (length (asked i))
 is_over_in Close i = false
 
-abbrev pub same_phase : Phase → Phase → Bool
-same_phase Prices Prices = true
-same_phase Rules Rules = true
-same_phase Close Close = true
-same_phase _ _ = false
+-- a phase begins as its first command is asked for, and only behind those before it
+abbrev pub place_of : Phase → ℕ
+place_of Prices = 0
+place_of Rules = 1
+place_of Close = 2
 
--- a phase begins as its first command is asked for
+abbrev pub begins : Phase → Option Phase → Bool
+begins phase None = true
+begins phase (Some now) = nat_lt (place_of now) (place_of phase)
+
 abbrev pub entered : Phase → Inside → Inside
 entered phase i =
-    if option_map_or (same_phase phase) i.phase false then i
-    else record i { phase = Some phase; left = commands_of phase i; over = is_over_in phase i }
+    if begins phase i.phase
+    then record i { phase = Some phase; left = commands_of phase i; over = is_over_in phase i }
+    else i
 
 abbrev pub first_of : List Command → Option Command
 first_of [] = None
