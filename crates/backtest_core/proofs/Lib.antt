@@ -3,3 +3,5 @@ pub mod PartLemmas
 pub mod StartLemmas
 pub mod MomentLemmas
 pub mod FollowLemmas
+pub mod HalfwayLemmas
+pub mod ListLemmas

@@ -1,5 +1,5 @@
 -- Which slices a core takes whole. What does not fit is passed over.
-use Rattle.std.specs.Prelude.{◌≡◌, ℕ, true, pos, ◌≤ℤ◌, List, [], ◌∷◌, Option, Some, None}
+use Rattle.std.specs.Prelude.{◌≡◌, ℕ, ◌≤◌, true, pos, ◌≤ℤ◌, List, [], ◌∷◌, Option, Some, None}
 use Rattle.std.specs.List.{AllByRecursion as Each}
 use Rattle.lean_items.specs.declared.arrival.Arrival.{Arrival}
 use Rattle.lean_items.specs.declared.bar.Bar.{Bar}
@@ -36,8 +36,19 @@ IsSoundRow (Bad bad) = Unit {0}
 IsSoundRow Faulted = Unit {0}
 IsSoundRow End = Unit {0}
 
--- A slice of a moment: no bar that was known before ends at it, and of each security there is at most one bar, which fits.
+-- the numbers of the feeds do not fall
+abbrev pub AreInOrder : List Arrival → Type 0
+AreInOrder [] = Unit {0}
+AreInOrder (a ∷ later) = Each (λ b. a.feed.0 ≤ b.feed.0) later × AreInOrder later
+
+abbrev pub FeedsRise : List Followed → Type 0
+FeedsRise [] = Unit {0}
+FeedsRise (f ∷ later) = Each (λ g. feed_of f ≤ feed_of g) later × FeedsRise later
+
+-- A slice of a moment comes in the order of the feeds. No bar that was known before ends at it, and of each security there is at most one bar, which fits.
 pub record IsSlice (t : ℕ) (v : Standing) (slice : List Arrival) : Type 0 where
   pub quiet : Each (λ f. IsQuiet t (history f)) v.followed
   pub bars : Each (λ f. FitsOnce t f (bars_in slice (feed_of f))) v.followed
   pub rows : Each (λ a. IsSoundRow a.item) slice
+  pub order : AreInOrder slice
+  pub rising : FeedsRise v.followed

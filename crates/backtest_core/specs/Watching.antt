@@ -1,14 +1,18 @@
 -- What is kept of an active security, and the bars for which it stands.
-use Rattle.std.specs.Prelude.{◌≡◌, ℕ, ℤ, ◌≤ℤ◌, Bool, true, ◌&&◌, int_le, int_lt, List, [], ◌∷◌, Option, Some, None}
+use Rattle.std.specs.Prelude.{◌≡◌, ℕ, ℤ, ◌≤ℤ◌, Bool, true, ◌&&◌, int_le, int_lt, List, [], ◌∷◌, Option, Some, None, option_map}
 use Rattle.std.specs.List.{AllByRecursion as Each}
 use Rattle.lean_fixed.specs.Ranges.{IsMoment}
+use Rattle.lean_fixed.specs.declared.time.Moment.{Moment}
 use Rattle.lean_items.specs.declared.arrival.Arrival.{Arrival}
 use Rattle.lean_items.specs.declared.bar.Bar.{Bar}
 use Rattle.lean_items.specs.Fits.{is_bar_in_range}
 use Rattle.consolidators.specs.Buckets.{bucket_of, bucket_end}
+use Rattle.lean_orders.specs.declared.desk.Command.{Command}
+use Rattle.lean_orders.specs.declared.desk.Command.TheVariants.{Mark}
 use Rattle.universe_state.specs.Active.{Active}
 use Rattle.clock_run.specs.Histories.{bar_now, fresh_bar}
 use Rattle.clock_run.specs.Idle.{IsQuiet}
+use Rattle.clock_run.specs.Moments.{price_bar}
 use Rattle.backtest_core.specs.declared.watched.Watched.{Watched}
 use Rattle.backtest_core.specs.Following.{FollowsBars}
 use Rattle.backtest_core.specs.Standing.{Followed, history, feed_of}
@@ -47,3 +51,7 @@ pub record WatchesAt (t : ℕ) (w : Watched) (f : Followed) : Type 0 where
   pub watches : Watches w f
   pub ended : w.ended ≡ bar_now t (history f)
   pub fresh : w.fresh ≡ fresh_bar t (history f)
+
+-- what is told of a security's price at a moment
+abbrev pub mark_in : Moment → Watched → Option Command
+mark_in at w = option_map (λ bar. Mark at w.symbol (price_bar bar)) w.ended

@@ -6,5 +6,6 @@ pub mod laws;
 mod phase;
 mod watched;
 mod watching;
+mod watchlist;
 
 pub use phase::Phase;

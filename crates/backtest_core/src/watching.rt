@@ -1,5 +1,6 @@
 //! What an active security hears at a moment.
-ghost use Rattle.std.specs.Prelude.{◌≡◌, ◌++◌, ◌∷◌, [], ℕ, true, Option};
+ghost use Rattle.std.specs.Prelude.{◌≡◌, ◌≤◌, ◌++◌, ◌∷◌, [], ℕ, true, List, length, drop, Option};
+ghost use Rattle.lean_items.specs.declared.arrival.Arrival.{Arrival as Arrived};
 ghost use Rattle.consolidators.specs.declared.consolidator.Consolidator.{Consolidator};
 ghost use Rattle.lean_items.specs.Fits.{is_bar_in_range};
 ghost use Rattle.clock_run.specs.Idle.{IsQuiet};
@@ -9,7 +10,7 @@ ghost use Rattle.consolidators.specs.Pushed.{IsPeriod};
 ghost use Rattle.backtest_core.specs.Following.{period_in, CanTake, EndsFrom, IsPeriodIn};
 ghost use Rattle.backtest_core.specs.Standing.{Followed, history, feed_of};
 ghost use Rattle.backtest_core.specs.Inside.{bar_for, bars_in, with_bars};
-ghost use Rattle.backtest_core.specs.Slices.{FitsNow, FitsOnce};
+ghost use Rattle.backtest_core.specs.Slices.{FitsNow, FitsOnce, AreInOrder};
 ghost use Rattle.backtest_core.specs.Watching.{first_bar, is_behind, is_fit, Watches, WatchesAt};
 
 use crate::watched::Watched;
@@ -17,13 +18,13 @@ use lean_fixed::Moment;
 use lean_items::{Arrival, Bar, FeedNo, Item};
 
 impl Watched {
-    /// Hears the bar of a slice that is of its feed, where there is one. A bar that does not fit is passed over.
-    pub fn arrive(&mut self, slice: &[Arrival])
-        ensures arrives { (t : ℕ) (f : Followed) → Watches self.old f → IsQuiet t (history f)
-            → FitsOnce t f (bars_in slice.now (feed_of f))
-            → WatchesAt t self.new (with_bars slice.now f) }
+    /// Hears its bar of a moment, where there is one. A bar that does not fit is passed over.
+    pub fn arrive(&mut self, bar: Option<Bar>)
+        ensures arrives { (t : ℕ) (f : Followed) (slice : List Arrived) → Watches self.old f → IsQuiet t (history f)
+            → FitsOnce t f (bars_in slice (feed_of f)) → bar ≡ first_bar (bars_in slice (feed_of f))
+            → WatchesAt t self.new (with_bars slice f) }
     {
-        match bar_of(slice, self.feed) {
+        match bar {
             None => self.rest(),
             Some(bar) => self.take(&bar),
         }
@@ -52,16 +53,38 @@ impl Watched {
     }
 }
 
-// The first bar of a feed in a slice.
-fn bar_of(slice: &[Arrival], feed: FeedNo) -> Option<Bar>
-    ensures { result ≡ first_bar (bars_in slice.now feed.0) }
+/// Where a search ended, and the bar that was found.
+#[derive(Clone, Copy)]
+pub(crate) struct Found {
+    pub place: usize,
+    pub bar: Option<Bar>,
+}
+
+/// The first bar of a feed in a slice from a place on, in which the numbers of the feeds do not fall.
+pub(crate) fn find_bar(slice: &[Arrival], from: usize, feed: FeedNo) -> Found
+    requires { from ≤ length slice.now }
+    ensures within { result.place ≤ length slice.now }
+    ensures found { AreInOrder slice.now
+        → result.bar ≡ first_bar (bars_in (drop from slice.now) feed.0) }
+    ensures passed { (later : ℕ) → feed.0 ≤ later
+        → bars_in (drop from slice.now) later ≡ bars_in (drop result.place slice.now) later }
 {
-    for arrival in slice {
+    for place in from..slice.len() {
+        let arrival = &slice[place];
+        if arrival.feed.0 > feed.0 {
+            return Found { place, bar: None };
+        }
         if let Some(bar) = bar_for(arrival, feed) {
-            return Some(bar);
+            return Found {
+                place,
+                bar: Some(bar),
+            };
         }
     }
-    None
+    Found {
+        place: slice.len(),
+        bar: None,
+    }
 }
 
 fn bar_for(arrival: &Arrival, feed: FeedNo) -> Option<Bar>
