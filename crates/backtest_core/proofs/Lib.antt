@@ -3,3 +3,4 @@ pub mod PartLemmas
 pub mod StartLemmas
 pub mod MomentLemmas
 pub mod FollowLemmas
+pub mod LiveLemmas

@@ -18,7 +18,7 @@ pub returns-in-Some : goal.returns-in-Some
 returns-in-Some c = record {
   arrives = λ t f watches quiet once.
       let one = with-one t f (bars_in c.args.slice.now (feed_of f)) c.in-Some.bar
-          (ap (λ a. first_bar (bars_in c.args.slice.now a.feed.0)) (sym watches.active) ∙ (sym c.bar_of.ensures ∙ c.in-Some.is)) once in
+      (ap (λ a. first_bar (bars_in c.args.slice.now a.feed.0)) (sym watches.active) ∙ (sym c.bar_of.ensures ∙ c.in-Some.is)) once in
       subst (λ bars. WatchesAt t c.take.new.self (record f { bars = f.bars ++ bars })) (sym one.is)
       (c.take.ensures.takes t f watches quiet one.fits);
 }
