@@ -37,9 +37,9 @@ pub closes-heard : (period : Option ℕ) (before between now : Recent) (bars : L
     → WindowsStandFor now (closes (record { symbol = []; period = period; bars = bars ++ bar ∷ [] }))
 closes-heard period before between now bars bar given gives same hears stands =
     let more : closes (record { symbol = []; period = period; bars = bars ++ bar ∷ [] })
-        ≡ closes (record { symbol = []; period = period; bars = bars }) ++ map (λ b. b.closing) given =
-        closes-push [] period bars bar
-        ∙ ap (λ gs. closes (record { symbol = []; period = period; bars = bars }) ++ map (λ b. b.closing) gs) (sym gives) in
+    ≡ closes (record { symbol = []; period = period; bars = bars }) ++ map (λ b. b.closing) given =
+    closes-push [] period bars bar
+    ∙ ap (λ gs. closes (record { symbol = []; period = period; bars = bars }) ++ map (λ b. b.closing) gs) (sym gives) in
     subst (WindowsStandFor now) (sym more)
     (hears (closes (record { symbol = []; period = period; bars = bars })) (subst (λ w. WindowsStandFor w (closes (record { symbol = []; period = period; bars = bars }))) (sym same) stands))
 
@@ -62,9 +62,10 @@ can-take (Some c) period until bar period_is ends range behind =
     let two = and_parts (int_lt bar.start.0 bar.end.0) (int_le bar.end.0 (bucket_end (period_of c) (bucket_of (period_of c) bar))) one.1 in
     let low : int_le until bar.start.0 ≡ true = one.0 in
     let short : int_lt bar.start.0 bar.end.0 ≡ true = two.0 in
-    let within : int_le bar.end.0 (bucket_end (period_of c) (bucket_of (period_of c) bar)) ≡ true = two.1 in
-    (record { numbers = numbers; after = grind (arith, ints); within = grind (arith, ints) },
-    ends c refl bar.start.0 numbers.start (grind (arith, ints)))
+    let within : int_le bar.end.0 (bucket_end (period_of c) (bucket_of (period_of c) bar)) ≡ true = two.1 in (
+      record { numbers = numbers; after = grind (arith, ints); within = grind (arith, ints) },
+      ends c refl bar.start.0 numbers.start (grind (arith, ints)),
+    )
 
 -- the bar that ends now
 ends-here : (t : ℕ) (bars : List Bar) (bar : Bar) → Each (λ b. ends_at t b ≡ false) bars → ends_at t bar ≡ true

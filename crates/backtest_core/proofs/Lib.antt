@@ -5,3 +5,4 @@ pub mod MomentLemmas
 pub mod FollowLemmas
 pub mod HalfwayLemmas
 pub mod ListLemmas
+pub mod LiveLemmas

@@ -5,3 +5,4 @@ pub mod Slices
 pub mod Made
 pub mod Following
 pub mod Watching
+pub mod Mirror

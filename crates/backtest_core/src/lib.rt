@@ -3,6 +3,10 @@
 
 mod following;
 pub mod laws;
+mod learning;
+mod live;
+mod mirror;
+mod orders;
 mod phase;
 mod watched;
 mod watching;

@@ -121,7 +121,9 @@ fn is_behind(period: Option<u32>, until: Moment, bar: &Bar) -> bool
     match period {
         None => true,
         Some(period) => {
-            until.0 <= bar.start.0 && bar.start.0 < bar.end.0 && bar.end.0 <= bucket_end(period, bar.start)
+            until.0 <= bar.start.0
+                && bar.start.0 < bar.end.0
+                && bar.end.0 <= bucket_end(period, bar.start)
         }
     }
 }
