@@ -6,3 +6,5 @@ pub mod Made
 pub mod Following
 pub mod Watching
 pub mod Mirror
+pub mod Phases
+pub mod Giving

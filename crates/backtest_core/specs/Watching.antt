@@ -1,6 +1,7 @@
 -- What is kept of an active security, and the bars for which it stands.
-use Rattle.std.specs.Prelude.{◌≡◌, ℕ, ℤ, ◌≤ℤ◌, Bool, true, ◌&&◌, int_le, int_lt, List, [], ◌∷◌, Option, Some, None, option_map}
+use Rattle.std.specs.Prelude.{◌≡◌, ℕ, ℤ, ◌≤ℤ◌, Bool, true, ◌&&◌, int_le, int_lt, List, [], ◌∷◌, Option, Some, None, option_map, flat_map}
 use Rattle.std.specs.List.{AllByRecursion as Each}
+use Rattle.std.specs.Option.{option_to_list}
 use Rattle.lean_fixed.specs.Ranges.{IsMoment}
 use Rattle.lean_fixed.specs.declared.time.Moment.{Moment}
 use Rattle.lean_items.specs.declared.arrival.Arrival.{Arrival}
@@ -55,3 +56,6 @@ pub record WatchesAt (t : ℕ) (w : Watched) (f : Followed) : Type 0 where
 -- what is told of a security's price at a moment
 abbrev pub mark_in : Moment → Watched → Option Command
 mark_in at w = option_map (λ bar. Mark at w.symbol (price_bar bar)) w.ended
+
+abbrev pub marks_in : Moment → List Watched → List Command
+marks_in at ws = flat_map (λ w. option_to_list (mark_in at w)) ws

@@ -1,13 +1,18 @@
 //! One moment of a backtest, computed: bars and coarse rows in, commands out, replies in, lines out.
 #![tactic(auto)]
 
+mod commands;
 mod following;
+mod giving;
 pub mod laws;
 mod learning;
+mod lines;
 mod live;
 mod mirror;
 mod orders;
 mod phase;
+mod telling;
+mod waiting;
 mod watched;
 mod watching;
 mod watchlist;
