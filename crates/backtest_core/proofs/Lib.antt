@@ -4,3 +4,4 @@ pub mod StartLemmas
 pub mod MomentLemmas
 pub mod FollowLemmas
 pub mod LiveLemmas
+pub mod AskLemmas

@@ -6,3 +6,4 @@ pub mod Made
 pub mod Following
 pub mod Watching
 pub mod Mirror
+pub mod Asking

@@ -1,6 +1,8 @@
 //! One moment of a backtest, computed: bars and coarse rows in, commands out, replies in, lines out.
 #![tactic(auto)]
 
+mod asking;
+mod facts;
 mod following;
 pub mod laws;
 mod learning;
@@ -8,6 +10,8 @@ mod live;
 mod mirror;
 mod orders;
 mod phase;
+mod places;
+mod viewing;
 mod watched;
 mod watching;
 
