@@ -6,3 +6,4 @@ pub mod FollowLemmas
 pub mod HalfwayLemmas
 pub mod ListLemmas
 pub mod LiveLemmas
+pub mod AskLemmas

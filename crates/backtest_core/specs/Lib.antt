@@ -8,3 +8,4 @@ pub mod Watching
 pub mod Mirror
 pub mod Phases
 pub mod Giving
+pub mod Asking

@@ -2,6 +2,8 @@
 #![tactic(auto)]
 
 mod commands;
+mod asking;
+mod facts;
 mod following;
 mod giving;
 pub mod laws;
@@ -13,6 +15,8 @@ mod orders;
 mod phase;
 mod telling;
 mod waiting;
+mod places;
+mod viewing;
 mod watched;
 mod watching;
 mod watchlist;
