@@ -7,3 +7,4 @@ pub mod HalfwayLemmas
 pub mod ListLemmas
 pub mod LiveLemmas
 pub mod AskLemmas
+pub mod SoundLemmas

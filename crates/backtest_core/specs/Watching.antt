@@ -54,8 +54,11 @@ pub record WatchesAt (t : ℕ) (w : Watched) (f : Followed) : Type 0 where
   pub fresh : w.fresh ≡ fresh_bar t (history f)
 
 -- what is told of a security's price at a moment
+abbrev pub mark_with : Moment → List ℕ → Option Bar → Option Command
+mark_with at symbol ended = option_map (λ bar. Mark at symbol (price_bar bar)) ended
+
 abbrev pub mark_in : Moment → Watched → Option Command
-mark_in at w = option_map (λ bar. Mark at w.symbol (price_bar bar)) w.ended
+mark_in at w = mark_with at w.symbol w.ended
 
 abbrev pub marks_in : Moment → List Watched → List Command
 marks_in at ws = flat_map (λ w. option_to_list (mark_in at w)) ws

@@ -1,5 +1,5 @@
 //! What the rules ask for at a moment.
-ghost use Rattle.std.specs.Prelude.{◌≡◌, ◌++◌, ℕ, List, Some, map, flat_map, OnOk};
+ghost use Rattle.std.specs.Prelude.{◌≡◌, ◌++◌, ℕ, true, List, Some, map, flat_map, OnOk};
 ghost use Rattle.std.specs.List.{AllZip, AllByRecursion as Each};
 ghost use Rattle.exchange_hours.specs.Sessions.{moment};
 ghost use Rattle.lean_fixed.specs.declared.money.Price.{Price};
@@ -12,7 +12,9 @@ ghost use Rattle.clock_run.specs.Histories.{History, closes};
 ghost use Rattle.clock_run.specs.Requests.{is_for, rule_view, orders_seen, fresh_requests, security_requests, requests};
 ghost use Rattle.backtest_core.specs.Standing.{Followed, history};
 ghost use Rattle.backtest_core.specs.Watching.{WatchesAt};
+ghost use Rattle.lean_fixed.specs.Ranges.{IsPrintedMoment};
 ghost use Rattle.backtest_core.specs.Mirror.{Sees};
+ghost use Rattle.backtest_core.specs.Phases.{AreOf};
 ghost use Rattle.backtest_core.specs.Asking.{FindsRule, HasWindows, facts_of, view_with, value_at};
 
 use crate::facts::Facts;
@@ -36,9 +38,11 @@ pub fn ask(
     view: &mut RuleView,
     out: &mut Vec<Command>,
 ) -> Result<(), NoMemory>
-    ensures { OnOk result ((t : ℕ) (seen : Seen) (f : Followed) → at ≡ moment t → Sees mirror.now seen
+    requires { IsPrintedMoment at.0 }
+    ensures asks { OnOk result ((t : ℕ) (seen : Seen) (f : Followed) → at ≡ moment t → Sees mirror.now seen
         → WatchesAt t security.now f → FindsRule security.now.following.windows.specs places.now rule.now
         → out.new.items ≡ out.old.items ++ security_requests seen t rule.now (history f)) }
+    ensures sound { OnOk result (AreOf at.0 true out.old.items → AreOf at.0 true out.new.items) }
 {
     match security.fresh {
         None => Ok(()),
@@ -57,10 +61,12 @@ fn ask_with(
     view: &mut RuleView,
     out: &mut Vec<Command>,
 ) -> Result<(), NoMemory>
-    ensures { OnOk result ((t : ℕ) (seen : Seen) (h : History) → at ≡ moment t → Sees mirror.now seen
+    requires { IsPrintedMoment at.0 }
+    ensures asks { OnOk result ((t : ℕ) (seen : Seen) (h : History) → at ≡ moment t → Sees mirror.now seen
         → WindowsStandFor security.now.following.windows (closes h) → security.now.symbol ≡ h.symbol
         → FindsRule security.now.following.windows.specs places.now rule.now
         → out.new.items ≡ out.old.items ++ fresh_requests rule.now seen t h (Some bar.now)) }
+    ensures sound { OnOk result (AreOf at.0 true out.old.items → AreOf at.0 true out.new.items) }
 {
     if !is_for(rule, security.symbol) {
         return Ok(());
@@ -70,6 +76,7 @@ fn ask_with(
 }
 
 // The same, for a security that the rule is for.
+#[tactic(auto, using(crate::proofs::SoundLemmas::are_more, crate::proofs::SoundLemmas::requests_sound))]
 fn ask_of(
     places: &RulePlaces,
     rule: &Rule,
@@ -79,12 +86,14 @@ fn ask_of(
     view: &mut RuleView,
     out: &mut Vec<Command>,
 ) -> Result<(), NoMemory>
-    ensures { OnOk result ((t : ℕ) (seen : Seen) (h : History) (bar : Bar) → Sees mirror.now seen
+    requires { IsPrintedMoment facts.now.at.0 }
+    ensures asks { OnOk result ((t : ℕ) (seen : Seen) (h : History) (bar : Bar) → Sees mirror.now seen
         → facts.now ≡ facts_of seen t h.symbol bar
         → WindowsStandFor security.now.following.windows (closes h) → security.now.symbol ≡ h.symbol
         → FindsRule security.now.following.windows.specs places.now rule.now
         → out.new.items ≡ out.old.items
         ++ requests_of rule.now h.symbol (rule_view seen t h bar rule.now) (orders_seen seen h.symbol)) }
+    ensures sound { OnOk result (AreOf facts.now.at.0 true out.old.items → AreOf facts.now.at.0 true out.new.items) }
 {
     fill(&mut view.when, facts, &security.following.windows, &places.when)?;
     if !rule.when.truth(&view.when) {
@@ -96,13 +105,14 @@ fn ask_of(
 
 // Has the views of a rule's action.
 fn fill_others(view: &mut RuleView, facts: &Facts, windows: &Windows, places: &RulePlaces) -> Result<(), NoMemory>
-    ensures { OnOk result ((closes : List Price) → WindowsStandFor windows.now closes
+    ensures views { OnOk result ((closes : List Price) → WindowsStandFor windows.now closes
         → view.new ≡ record {
           when = view.old.when;
           quantity = view_with facts.now (map (value_at closes windows.now.specs) places.now.quantity.items);
           price = view_with facts.now (map (value_at closes windows.now.specs) places.now.price.items);
           limit = view_with facts.now (map (value_at closes windows.now.specs) places.now.limit.items);
         }) }
+    ensures when { view.new.when ≡ view.old.when }
 {
     fill(&mut view.quantity, facts, windows, &places.quantity)?;
     fill(&mut view.price, facts, windows, &places.price)?;
@@ -128,10 +138,12 @@ pub fn ask_securities(
     view: &mut RuleView,
     out: &mut Vec<Command>,
 ) -> Result<(), NoMemory>
-    ensures { OnOk result ((t : ℕ) (seen : Seen) (fs : List Followed) (specs : List WindowSpec)
+    requires { IsPrintedMoment at.0 }
+    ensures asks { OnOk result ((t : ℕ) (seen : Seen) (fs : List Followed) (specs : List WindowSpec)
         → at ≡ moment t → Sees mirror.now seen → AllZip (WatchesAt t) watched.now fs
         → Each (HasWindows specs) watched.now → FindsRule specs places.now rule.now
         → out.new.items ≡ out.old.items ++ flat_map (security_requests seen t rule.now) (map history fs)) }
+    ensures sound { OnOk result (AreOf at.0 true out.old.items → AreOf at.0 true out.new.items) }
 {
     for security in watched {
         ask(places, rule, security, mirror, at, view, out)?;
@@ -149,10 +161,12 @@ pub fn ask_rules(
     view: &mut RuleView,
     out: &mut Vec<Command>,
 ) -> Result<(), NoMemory>
-    ensures { OnOk result ((t : ℕ) (seen : Seen) (fs : List Followed) (specs : List WindowSpec)
+    requires { IsPrintedMoment at.0 }
+    ensures asks { OnOk result ((t : ℕ) (seen : Seen) (fs : List Followed) (specs : List WindowSpec)
         → at ≡ moment t → Sees mirror.now seen → AllZip (WatchesAt t) watched.now fs
         → Each (HasWindows specs) watched.now → AllZip (FindsRule specs) places.now rules.now
         → out.new.items ≡ out.old.items ++ requests rules.now seen t (map history fs)) }
+    ensures sound { OnOk result (AreOf at.0 true out.old.items → AreOf at.0 true out.new.items) }
 {
     if places.len() != rules.len() {
         return Ok(());

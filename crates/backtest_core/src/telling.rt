@@ -1,11 +1,12 @@
 //! The commands of the prices and of the close of a session.
-ghost use Rattle.std.specs.Prelude.{◌≡◌, ◌++◌, ◌∷◌, [], ℕ, if◌then◌else◌, OnOk};
+ghost use Rattle.std.specs.Prelude.{◌≡◌, ◌≤◌, ◌+◌, ◌++◌, ◌∷◌, [], ℕ, false, vec_len, if◌then◌else◌, OnOk};
 ghost use Rattle.std.specs.Option.{option_to_list};
 ghost use Rattle.lean_fixed.specs.Ranges.{IsPrintedMoment};
 ghost use Rattle.lean_orders.specs.declared.desk.Command.TheVariants.{Match, Account};
 ghost use Rattle.exchange_hours.specs.Sessions.{moment};
 ghost use Rattle.exchange_hours.specs.Grid.{is_closing};
 ghost use Rattle.clock_run.specs.Moments.{price_bar};
+ghost use Rattle.backtest_core.specs.Phases.{AreOf};
 ghost use Rattle.backtest_core.specs.Watching.{mark_in, marks_in};
 
 use crate::watched::Watched;
@@ -52,9 +53,12 @@ fn price_bar(bar: &Bar) -> PriceBar
 }
 
 /// Appends that the account is asked for, where a session closes at a moment.
+#[tactic(auto, using(crate::proofs::SoundLemmas::are_more))]
 pub(crate) fn tell_close(hours: &Hours, at: Moment, out: &mut Vec<Command>) -> Result<(), NoMemory>
     requires { IsPrintedMoment at.0 }
-    ensures { OnOk result ((t : ℕ) → at ≡ moment t
+    ensures sound { OnOk result (AreOf at.0 false out.old.items → AreOf at.0 false out.new.items) }
+    ensures few { OnOk result (vec_len out.new ≤ vec_len out.old + 1) }
+    ensures told { OnOk result ((t : ℕ) → at ≡ moment t
         → out.new.items ≡ out.old.items ++ (if is_closing hours.now t then Account at ∷ [] else [])) }
 {
     if is_closing(hours, at) {

@@ -17,7 +17,8 @@ use rule_lang::{View, WindowValues};
 
 /// What is seen of a symbol that was given a bar. `NoMemory` comes only where more than 2^32 - 1 orders of it are live.
 pub(crate) fn facts_of(symbol: Symbol, bar: &Bar, mirror: &Mirror, at: Moment) -> Result<Facts, NoMemory>
-    ensures { IfOk result (λ facts. (t : ℕ) (seen : Seen) → at ≡ moment t → Sees mirror.now seen
+    ensures at { IfOk result (λ facts. facts.at ≡ at) }
+    ensures facts { IfOk result (λ facts. (t : ℕ) (seen : Seen) → at ≡ moment t → Sees mirror.now seen
         → facts ≡ facts_of seen t symbol bar.now) }
 {
     let orders = mirror.orders_of(symbol).len();
@@ -46,7 +47,8 @@ fn price_of(symbol: Symbol, mirror: &Mirror) -> Price
 
 /// Has a view of these, with the values of the windows at some places.
 pub(crate) fn fill(view: &mut View, facts: &Facts, windows: &Windows, places: &[usize]) -> Result<(), NoMemory>
-    ensures { OnOk result ((closes : List Price) → WindowsStandFor windows.now closes
+    ensures at { view.new.at ≡ facts.now.at }
+    ensures view { OnOk result ((closes : List Price) → WindowsStandFor windows.now closes
         → view.new ≡ view_with facts.now (map (value_at closes windows.now.specs) places.now)) }
 {
     view.bar = facts.bar;

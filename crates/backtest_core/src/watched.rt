@@ -1,4 +1,6 @@
-ghost use Rattle.std.specs.Prelude.{◌≡◌};
+ghost use Rattle.std.specs.Prelude.{◌≡◌, true};
+ghost use Rattle.std.specs.Option.{ForSome};
+ghost use Rattle.lean_items.specs.Fits.{is_bar_in_range};
 ghost use Rattle.backtest_core.specs.Following.{period_in, EndsFrom, IsPeriodIn};
 
 use crate::following::Following;
@@ -25,5 +27,6 @@ pub struct Watched {
     pub fresh: Option<Bar>,
     pub ghost period_is: { period ≡ period_in following.longer },
     pub ghost lasts: { IsPeriodIn period },
+    pub ghost sound: { ForSome ended (λ bar. is_bar_in_range bar ≡ true) },
     pub ghost ends: { EndsFrom until.0 following.longer },
 }

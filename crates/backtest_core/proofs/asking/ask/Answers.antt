@@ -6,10 +6,10 @@ use Rattle.backtest_core.proofs.LiveLemmas.{on_ok}
 use Rattle.backtest_core.proofs.AskLemmas.{closes-followed}
 use Rattle.backtest_core.proofs.asking.ask.Goals as goal
 
-pub returns-in-Some : goal.returns-in-Some
-returns-in-Some c =
+pub returns-in-Some-clause-asks : goal.returns-in-Some-clause-asks
+returns-in-Some-clause-asks c =
     on_ok c.ask_with.result
     (λ asks t seen f at sees watches finds.
     asks t seen (history f) at sees (closes-followed t c.args.security.now f watches) (ap (λ (a : Active). a.symbol) watches.watches.active) finds
     ∙ ap (λ bar. c.args.out.now.items ++ fresh_requests c.args.rule.now seen t (history f) bar) (sym c.in-Some.is ∙ watches.fresh))
-    c.ask_with.ensures
+    c.ask_with.ensures.asks
