@@ -5,3 +5,4 @@ pub mod MomentLemmas
 pub mod FollowLemmas
 pub mod LiveLemmas
 pub mod AskLemmas
+pub mod TableLemmas

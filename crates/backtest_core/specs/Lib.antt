@@ -7,3 +7,4 @@ pub mod Following
 pub mod Watching
 pub mod Mirror
 pub mod Asking
+pub mod Tables

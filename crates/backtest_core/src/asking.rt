@@ -86,16 +86,32 @@ fn ask_of(
         → out.new.items ≡ out.old.items
         ++ requests_of rule.now h.symbol (rule_view seen t h bar rule.now) (orders_seen seen h.symbol)) }
 {
-    fill(&mut view.when, facts, &security.following.windows, &places.when)?;
+    fill(
+        &mut view.when,
+        facts,
+        &security.following.windows,
+        &places.when,
+    )?;
     if !rule.when.truth(&view.when) {
         return Ok(());
     }
     fill_others(view, facts, &security.following.windows, places)?;
-    requests(rule, security.symbol, view, mirror.orders_of(security.symbol), out)
+    requests(
+        rule,
+        security.symbol,
+        view,
+        mirror.orders_of(security.symbol),
+        out,
+    )
 }
 
 // Has the views of a rule's action.
-fn fill_others(view: &mut RuleView, facts: &Facts, windows: &Windows, places: &RulePlaces) -> Result<(), NoMemory>
+fn fill_others(
+    view: &mut RuleView,
+    facts: &Facts,
+    windows: &Windows,
+    places: &RulePlaces,
+) -> Result<(), NoMemory>
     ensures { OnOk result ((closes : List Price) → WindowsStandFor windows.now closes
         → view.new ≡ record {
           when = view.old.when;
@@ -158,7 +174,15 @@ pub fn ask_rules(
         return Ok(());
     }
     for place in 0..rules.len() {
-        ask_securities(&places[place], &rules[place], watched, mirror, at, view, out)?;
+        ask_securities(
+            &places[place],
+            &rules[place],
+            watched,
+            mirror,
+            at,
+            view,
+            out,
+        )?;
     }
     Ok(())
 }

@@ -11,6 +11,7 @@ mod mirror;
 mod orders;
 mod phase;
 mod places;
+mod table;
 mod viewing;
 mod watched;
 mod watching;
