@@ -9,3 +9,4 @@ pub mod Mirror
 pub mod Phases
 pub mod Giving
 pub mod Asking
+pub mod Tables

@@ -95,17 +95,38 @@ fn ask_of(
         ++ requests_of rule.now h.symbol (rule_view seen t h bar rule.now) (orders_seen seen h.symbol)) }
     ensures sound { OnOk result (AreOf facts.now.at.0 true out.old.items → AreOf facts.now.at.0 true out.new.items) }
 {
-    fill(&mut view.when, facts, &security.following.windows, &places.when)?;
+    fill(
+        &mut view.when,
+        facts,
+        &security.following.windows,
+        &places.when,
+    )?;
     if !rule.when.truth(&view.when) {
         return Ok(());
     }
     fill_others(view, facts, &security.following.windows, places)?;
-    requests(rule, security.symbol, view, mirror.orders_of(security.symbol), out)
+    requests(
+        rule,
+        security.symbol,
+        view,
+        mirror.orders_of(security.symbol),
+        out,
+    )
 }
 
 // Has the views of a rule's action.
+<<<<<<< HEAD
 fn fill_others(view: &mut RuleView, facts: &Facts, windows: &Windows, places: &RulePlaces) -> Result<(), NoMemory>
     ensures views { OnOk result ((closes : List Price) → WindowsStandFor windows.now closes
+=======
+fn fill_others(
+    view: &mut RuleView,
+    facts: &Facts,
+    windows: &Windows,
+    places: &RulePlaces,
+) -> Result<(), NoMemory>
+    ensures { OnOk result ((closes : List Price) → WindowsStandFor windows.now closes
+>>>>>>> db9b3690fe181bf3f2ab8914af7ffc713644d523
         → view.new ≡ record {
           when = view.old.when;
           quantity = view_with facts.now (map (value_at closes windows.now.specs) places.now.quantity.items);
@@ -172,7 +193,15 @@ pub fn ask_rules(
         return Ok(());
     }
     for place in 0..rules.len() {
-        ask_securities(&places[place], &rules[place], watched, mirror, at, view, out)?;
+        ask_securities(
+            &places[place],
+            &rules[place],
+            watched,
+            mirror,
+            at,
+            view,
+            out,
+        )?;
     }
     Ok(())
 }

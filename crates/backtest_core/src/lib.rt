@@ -16,6 +16,7 @@ mod phase;
 mod telling;
 mod waiting;
 mod places;
+mod table;
 mod viewing;
 mod watched;
 mod watching;
