@@ -115,10 +115,8 @@ fn ask_of(
 }
 
 // Has the views of a rule's action.
-<<<<<<< HEAD
 fn fill_others(view: &mut RuleView, facts: &Facts, windows: &Windows, places: &RulePlaces) -> Result<(), NoMemory>
     ensures views { OnOk result ((closes : List Price) → WindowsStandFor windows.now closes
-=======
 fn fill_others(
     view: &mut RuleView,
     facts: &Facts,
@@ -126,7 +124,6 @@ fn fill_others(
     places: &RulePlaces,
 ) -> Result<(), NoMemory>
     ensures { OnOk result ((closes : List Price) → WindowsStandFor windows.now closes
->>>>>>> db9b3690fe181bf3f2ab8914af7ffc713644d523
         → view.new ≡ record {
           when = view.old.when;
           quantity = view_with facts.now (map (value_at closes windows.now.specs) places.now.quantity.items);
