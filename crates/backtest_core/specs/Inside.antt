@@ -14,6 +14,7 @@ use Rattle.lean_orders.specs.declared.desk.Command.TheVariants.{Match, Account}
 use Rattle.lean_orders.specs.declared.desk.Reply.{Reply}
 use Rattle.rule_strategy.specs.declared.universe.UniversePlan.{UniversePlan}
 use Rattle.universe_rules.specs.Selected.{selected}
+use Rattle.universe_rules.specs.declared.rule.UniverseRule.{UniverseRule}
 use Rattle.universe_state.specs.Active.{Active}
 use Rattle.universe_state.specs.Choice.{additions, room}
 use Rattle.clock_book.specs.Seen.{given_out, learnt}
@@ -81,10 +82,13 @@ choosing at symbols v =
     inside at (take (room (actives_in v)) (additions symbols (actives_in v))) (record v { followed = map (marked_so symbols) v.followed })
 
 -- the symbols that are selected, where a choice is due
+abbrev pub choice_by : UniverseRule → List CoarseRow → Option (List (List ℕ))
+choice_by rule [] = None
+choice_by rule (row ∷ rows) = Some (selected (row ∷ rows) rule)
+
 abbrev pub choice : Option UniversePlan → List CoarseRow → Option (List (List ℕ))
 choice None rows = None
-choice (Some universe) [] = None
-choice (Some universe) (row ∷ rows) = Some (selected (row ∷ rows) universe.rule)
+choice (Some universe) rows = choice_by universe.rule rows
 
 abbrev pub choice_in : Standing → List Arrival → Option (List (List ℕ))
 choice_in v slice = choice v.setup.plan.universe (rows_in slice)

@@ -10,3 +10,6 @@ pub mod Phases
 pub mod Giving
 pub mod Asking
 pub mod Tables
+pub mod Waiting
+pub mod Leaving
+pub mod Text

@@ -115,15 +115,13 @@ fn ask_of(
 }
 
 // Has the views of a rule's action.
-fn fill_others(view: &mut RuleView, facts: &Facts, windows: &Windows, places: &RulePlaces) -> Result<(), NoMemory>
-    ensures views { OnOk result ((closes : List Price) → WindowsStandFor windows.now closes
 fn fill_others(
     view: &mut RuleView,
     facts: &Facts,
     windows: &Windows,
     places: &RulePlaces,
 ) -> Result<(), NoMemory>
-    ensures { OnOk result ((closes : List Price) → WindowsStandFor windows.now closes
+    ensures views { OnOk result ((closes : List Price) → WindowsStandFor windows.now closes
         → view.new ≡ record {
           when = view.old.when;
           quantity = view_with facts.now (map (value_at closes windows.now.specs) places.now.quantity.items);
