@@ -6,3 +6,4 @@ pub mod FollowLemmas
 pub mod LiveLemmas
 pub mod AskLemmas
 pub mod TableLemmas
+pub mod LearnLemmas
