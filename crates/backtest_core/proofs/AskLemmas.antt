@@ -1,6 +1,6 @@
 -- What the rules ask for, one security after another and one rule after another.
-use Rattle.std.proofs.Common.{◌≡◌, ℕ, zero, suc, ◌+◌, ◌<◌, Bool, true, false, cond, List, [], ◌∷◌, ◌++◌, length, get_or, take, map, flat_map, Option, Some, None, Result, Ok, Err, refl, sym, ap, subst, ◌∙◌, arith, append_assoc}
-use Rattle.std.specs.Prelude.{slice_get, option_and_then, IfOk, OnOk}
+use Rattle.std.proofs.Common.{◌≡◌, ℕ, zero, suc, ◌+◌, ◌<◌, false, cond, List, [], ◌∷◌, ◌++◌, length, get_or, take, map, flat_map, Option, Some, None, refl, sym, ap, subst, ◌∙◌, arith, append_assoc}
+use Rattle.std.specs.Prelude.{slice_get, option_and_then}
 use Rattle.std.specs.List.{AllZip, AllByRecursion as Each}
 use Rattle.std.proofs.lemmas.List.{append-nil}
 use Rattle.std.proofs.lemmas.Grind.{flat_map-append}
@@ -10,7 +10,7 @@ use Rattle.lean_orders.specs.declared.desk.Command.{Command}
 use Rattle.lean_orders.specs.declared.order.Resting.{Resting}
 use Rattle.bar_windows.specs.declared.spec.WindowSpec.{WindowSpec}
 use Rattle.bar_windows.specs.Recent.{StandsFor as WindowsStandFor}
-use Rattle.rule_lang.specs.Tree.{Tree, windows_of}
+use Rattle.rule_lang.specs.Tree.{Tree}
 use Rattle.rule_lang.specs.declared.view.View.{View}
 use Rattle.rule_lang.specs.Values.{truth_in}
 use Rattle.rule_lang.specs.Closes.{value_over}
@@ -19,7 +19,7 @@ use Rattle.rule_strategy.specs.declared.rule.Rule.{Rule}
 use Rattle.rule_strategy.specs.Asked.{requests_of, asked_by}
 use Rattle.clock_book.specs.Seen.{Seen}
 use Rattle.clock_run.specs.Histories.{History, closes}
-use Rattle.clock_run.specs.Requests.{view_of, values_if, rule_view, quantity_of, price_of, limit_of, is_for, orders_seen, fresh_requests, security_requests, requests}
+use Rattle.clock_run.specs.Requests.{view_of, values_if, rule_view, quantity_of, price_of, limit_of, orders_seen, security_requests, requests}
 use Rattle.backtest_core.specs.declared.facts.Facts.{Facts}
 use Rattle.backtest_core.specs.declared.places.RulePlaces.{RulePlaces}
 use Rattle.backtest_core.specs.declared.watched.Watched.{Watched}

@@ -9,3 +9,4 @@ pub mod LiveLemmas
 pub mod AskLemmas
 pub mod SoundLemmas
 pub mod TableLemmas
+pub mod LearnLemmas

@@ -1,6 +1,6 @@
 -- Windows keep their places while others are added behind them.
-use Rattle.std.proofs.Common.{◌≡◌, ℕ, zero, suc, ◌+◌, List, [], ◌∷◌, ◌++◌, ◌<◌, length, get_or, take, drop, map, Option, Some, None, refl, sym, ap, subst, ◌∙◌, arith, append_assoc}
-use Rattle.std.specs.Prelude.{slice_get, All}
+use Rattle.std.proofs.Common.{◌≡◌, ℕ, zero, suc, ◌+◌, List, [], ◌∷◌, ◌++◌, ◌<◌, length, get_or, take, drop, map, Some, refl, sym, ap, subst, ◌∙◌, arith, append_assoc}
+use Rattle.std.specs.Prelude.{slice_get}
 use Rattle.std.specs.List.{AllZip}
 use Rattle.std.proofs.lemmas.List.{append-nil, map-append, take_more}
 use Rattle.std.proofs.lemmas.Option.{none-some}
@@ -48,13 +48,14 @@ rules-on old new (p ∷ places) [] extends finds = absurd finds
 rules-on old new (p ∷ places) (r ∷ rules) extends finds = (rule-on old new p r extends finds.0, rules-on old new places rules extends finds.1)
 
 extends-none : (specs : List WindowSpec) → Extends specs specs
-extends-none specs = record { more = []; is = sym (append-nil specs); lengths = λ all. all }
+extends-none specs = record { more = []; is = sym (append-nil specs); lengths = λ all. all; differ = λ differ. differ }
 
 pub extends-on : (old now new : List WindowSpec) → Extends old now → Extends now new → Extends old new
 extends-on old now new first next = record {
   more = first.more ++ next.more;
   is = next.is ∙ ap (λ xs. xs ++ next.more) first.is ∙ append_assoc old first.more next.more;
   lengths = λ all. next.lengths (first.lengths all);
+  differ = λ differ. next.differ (first.differ differ);
 }
 
 pub adds-none : (specs : List WindowSpec) → Adds specs specs [] []
@@ -72,7 +73,7 @@ adds-more old now new places done place window within adds next = record {
 }
   where
     further : Extends now new
-    further = record { more = next.more; is = next.is; lengths = next.lengths within }
+    further = record { more = next.more; is = next.is; lengths = next.lengths within; differ = next.differ }
 
 pub adds-rule : (a b c d e : List WindowSpec) (places : RulePlaces) (rule : Rule)
     → Adds a b places.when.items (windows_of rule.when) → Adds b c places.quantity.items (windows_if (quantity_of rule.action))

@@ -1,5 +1,5 @@
 //! The windows of all rules, each once.
-ghost use Rattle.std.specs.Prelude.{◌≡◌, Some, slice_get, All, IfOk, IfSome};
+ghost use Rattle.std.specs.Prelude.{◌≡◌, ◌≢◌, Some, slice_get, All, IfOk, IfSome, IfNone};
 ghost use Rattle.bar_windows.specs.Kept.{IsLength};
 ghost use Rattle.rule_lang.specs.Tree.{windows_of};
 ghost use Rattle.clock_run.specs.Requests.{quantity_of, price_of, limit_of};
@@ -150,6 +150,7 @@ fn add(specs: &mut Vec<WindowSpec>, window: &WindowSpec) -> Result<usize, NoMemo
 }
 
 fn append(specs: &mut Vec<WindowSpec>, window: &WindowSpec) -> Result<usize, NoMemory>
+    requires { All (λ other. other ≢ window.now) specs.old.items }
     ensures { IfOk result (λ place. AddsPlace specs.old.items specs.new.items place window.now) }
 {
     let place = specs.len();
@@ -158,7 +159,8 @@ fn append(specs: &mut Vec<WindowSpec>, window: &WindowSpec) -> Result<usize, NoM
 }
 
 fn find(specs: &[WindowSpec], window: &WindowSpec) -> Option<usize>
-    ensures { IfSome result (λ place. slice_get specs.now place ≡ Some window.now) }
+    ensures place { IfSome result (λ place. slice_get specs.now place ≡ Some window.now) }
+    ensures none { IfNone result (All (λ other. other ≢ window.now) specs.now) }
 {
     for place in 0..specs.len() {
         if specs[place] == *window {
