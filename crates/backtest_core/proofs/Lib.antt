@@ -10,3 +10,4 @@ pub mod AskLemmas
 pub mod SoundLemmas
 pub mod TableLemmas
 pub mod LearnLemmas
+pub mod NamingLemmas

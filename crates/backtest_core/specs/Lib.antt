@@ -13,3 +13,6 @@ pub mod Tables
 pub mod Waiting
 pub mod Leaving
 pub mod Text
+pub mod Naming
+pub mod Core
+pub mod Calls

@@ -1,11 +1,12 @@
 //! Securities wait for the numbers of their feeds, and are watched from then on.
-ghost use Rattle.std.specs.Prelude.{◌≡◌, ◌^◌, [], ℕ, pos, neg_ℤ, All, IfOk};
+ghost use Rattle.std.specs.Prelude.{◌≡◌, ◌^◌, [], ℕ, pos, neg_ℤ, map, All, IfOk};
 ghost use Rattle.exchange_hours.specs.Sessions.{moment};
 ghost use Rattle.bar_windows.specs.Kept.{IsLength};
 ghost use Rattle.clock_run.specs.States.{equity_key, listed, joining};
+ghost use Rattle.rule_strategy.specs.Validity.{IsSecurity};
 ghost use Rattle.backtest_core.specs.Following.{period_in, LongerStands, EndsFrom, IsPeriodIn};
 ghost use Rattle.backtest_core.specs.Standing.{with_feed};
-ghost use Rattle.backtest_core.specs.Waiting.{subscription_in};
+ghost use Rattle.backtest_core.specs.Waiting.{subscription_in, subscriptions_in};
 ghost use Rattle.backtest_core.specs.Watching.{Watches};
 ghost use Rattle.backtest_core.specs.Asking.{HasWindows};
 
@@ -97,4 +98,21 @@ fn longer_of(period: Option<u32>) -> Option<Consolidator>
         None => None,
         Some(minutes) => Some(Consolidator::new(minutes)),
     }
+}
+
+/// The securities that a plan lists wait from the first moment on.
+pub(crate) fn wait_listed(
+    alloc: Global,
+    securities: &[Security],
+    start: Moment,
+) -> Result<Vec<Waiting>, NoMemory>
+    requires { All IsSecurity securities.now }
+    ensures { IfOk result (λ waiting. (t : ℕ) → start ≡ moment t
+        → subscriptions_in waiting.items ≡ map (listed t 0) securities.now) }
+{
+    let mut waiting = Vec::new(alloc);
+    for security in securities {
+        waiting.push(Waiting::listed(security, start))?;
+    }
+    Ok(waiting)
 }

@@ -1,6 +1,7 @@
 //! One moment of a backtest, computed: bars and coarse rows in, commands out, replies in, lines out.
 #![tactic(auto)]
 
+mod beginning;
 mod commands;
 mod asking;
 mod facts;
@@ -16,6 +17,8 @@ mod mirror;
 mod orders;
 mod phase;
 mod selecting;
+mod standing;
+mod stop;
 mod telling;
 mod waiting;
 mod places;
@@ -25,4 +28,6 @@ mod watched;
 mod watching;
 mod watchlist;
 
+pub use standing::Core;
 pub use phase::Phase;
+pub use stop::{Changes, Stop};
