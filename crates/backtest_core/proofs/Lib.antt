@@ -11,3 +11,5 @@ pub mod SoundLemmas
 pub mod TableLemmas
 pub mod LearnLemmas
 pub mod NamingLemmas
+pub mod CoreLemmas
+pub mod StandLemmas

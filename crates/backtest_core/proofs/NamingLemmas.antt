@@ -35,6 +35,7 @@ pub passed-here : (symbol : List ℕ) (ws : List Waiting) (place : ℕ) (w : Wai
     → waits_as symbol (subscription_in w) ≡ true → IsPassed symbol ws place → IsPlaceOf symbol ws place
 passed-here symbol ws place w within is here same passed =
     let later = subscriptions_in (drop (suc place) ws) in
+    let step : suc place ≡ place + 1 = omega arith in
     record {
       within = within;
       first = λ d. passed.first
@@ -45,5 +46,5 @@ passed-here symbol ws place w within is here same passed =
           ∙ (ap (λ l. subscriptions_in (take place ws) ++ without_first symbol (subscriptions_in l)) here
           ∙ (ap (λ b. subscriptions_in (take place ws) ++ cond b later (subscription_in w ∷ without_first symbol later)) same
           ∙ (sym (map-append subscription_in (take place ws) (drop (suc place) ws))
-          ∙ ap (λ n. subscriptions_in (take place ws ++ drop n ws)) (omega arith))));
+          ∙ ap (λ n. subscriptions_in (take place ws ++ drop n ws)) step)));
     }

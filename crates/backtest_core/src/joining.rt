@@ -1,12 +1,12 @@
 //! Securities wait for the numbers of their feeds, and are watched from then on.
-ghost use Rattle.std.specs.Prelude.{◌≡◌, ◌^◌, [], ℕ, pos, neg_ℤ, map, All, IfOk};
+ghost use Rattle.std.specs.Prelude.{◌≡◌, ◌^◌, [], ℕ, pos, neg_ℤ, map, length, vec_len, ◌+◌, ◌++◌, ◌∷◌, All, IfOk, OnOk};
 ghost use Rattle.exchange_hours.specs.Sessions.{moment};
 ghost use Rattle.bar_windows.specs.Kept.{IsLength};
-ghost use Rattle.clock_run.specs.States.{equity_key, listed, joining};
+ghost use Rattle.clock_run.specs.States.{listed, joining};
 ghost use Rattle.rule_strategy.specs.Validity.{IsSecurity};
 ghost use Rattle.backtest_core.specs.Following.{period_in, LongerStands, EndsFrom, IsPeriodIn};
 ghost use Rattle.backtest_core.specs.Standing.{with_feed};
-ghost use Rattle.backtest_core.specs.Waiting.{subscription_in, subscriptions_in};
+ghost use Rattle.backtest_core.specs.Waiting.{key_in, subscription_in, subscriptions_in};
 ghost use Rattle.backtest_core.specs.Watching.{Watches};
 ghost use Rattle.backtest_core.specs.Asking.{HasWindows};
 
@@ -15,7 +15,7 @@ use crate::waiting::Waiting;
 use crate::watched::Watched;
 use bar_windows::{WindowSpec, Windows};
 use consolidators::Consolidator;
-use lean_fixed::{Moment, NoMemory, Resolution, Symbol};
+use lean_fixed::{Moment, NoMemory, Symbol};
 use lean_items::{FeedKey, FeedKind, FeedNo};
 use rule_strategy::{Security, UniversePlan};
 use std::alloc::Global;
@@ -29,7 +29,9 @@ impl Waiting {
         Waiting {
             symbol: security.symbol,
             listed: true,
-            key: equity_key(start, security.symbol, security.resolution, security.fill),
+            resolution: security.resolution,
+            fill: security.fill,
+            start,
             period: security.period,
         }
     }
@@ -42,8 +44,21 @@ impl Waiting {
         Waiting {
             symbol,
             listed: false,
-            key: equity_key(at, symbol, universe.resolution, universe.fill),
+            resolution: universe.resolution,
+            fill: universe.fill,
+            start: at,
             period: universe.period,
+        }
+    }
+
+    /// What its feed reads.
+    pub(crate) fn key(&self) -> FeedKey
+        ensures { result ≡ key_in self.now }
+    {
+        FeedKey {
+            kind: FeedKind::Equity(self.symbol, self.resolution),
+            start: self.start,
+            fill: self.fill,
         }
     }
 
@@ -77,16 +92,6 @@ impl Waiting {
     }
 }
 
-fn equity_key(start: Moment, symbol: Symbol, resolution: Resolution, fill: bool) -> FeedKey
-    ensures { (t : ℕ) → start ≡ moment t → result ≡ equity_key t symbol resolution fill }
-{
-    FeedKey {
-        kind: FeedKind::Equity(symbol, resolution),
-        start,
-        fill,
-    }
-}
-
 // Bars of a longer period, where there is one, to which no bar was pushed.
 fn longer_of(period: Option<u32>) -> Option<Consolidator>
     requires { IsPeriodIn period }
@@ -107,12 +112,23 @@ pub(crate) fn wait_listed(
     start: Moment,
 ) -> Result<Vec<Waiting>, NoMemory>
     requires { All IsSecurity securities.now }
-    ensures { IfOk result (λ waiting. (t : ℕ) → start ≡ moment t
+    ensures len { IfOk result (λ waiting. vec_len waiting ≡ length securities.now) }
+    ensures listed { IfOk result (λ waiting. (t : ℕ) → start ≡ moment t
         → subscriptions_in waiting.items ≡ map (listed t 0) securities.now) }
 {
     let mut waiting = Vec::new(alloc);
     for security in securities {
-        waiting.push(Waiting::listed(security, start))?;
+        add_listed(security, start, &mut waiting)?;
     }
     Ok(waiting)
+}
+
+fn add_listed(security: &Security, start: Moment, out: &mut Vec<Waiting>) -> Result<(), NoMemory>
+    requires { IsPeriodIn security.now.period }
+    ensures len { OnOk result (vec_len out.new ≡ vec_len out.old + 1) }
+    ensures listed { OnOk result ((t : ℕ) → start ≡ moment t
+        → subscriptions_in out.new.items ≡ subscriptions_in out.old.items ++ listed t 0 security.now ∷ []) }
+{
+    out.push(Waiting::listed(security, start))?;
+    Ok(())
 }
