@@ -3,7 +3,8 @@ use Rattle.std.proofs.Common.{◌≡◌, ℕ, ◌+◌, ◌≤◌, ℤ, pos, List
 use Rattle.std.specs.Prelude.{Option, Some, None, cond, map, filter, flat_map}
 use Rattle.std.specs.List.{AllByRecursion as Each}
 use Rattle.std.specs.Option.{option_to_list, ForSome}
-use Rattle.lean_fixed.specs.Ranges.{IsMoment}
+use Rattle.std.proofs.lemmas.Int.{ints}
+use Rattle.lean_fixed.specs.Ranges.{IsMoment, IsPrintedMoment}
 use Rattle.lean_fixed.specs.declared.money.Price.{Price}
 use Rattle.lean_fixed.specs.declared.time.Moment.{Moment}
 use Rattle.lean_items.specs.declared.bar.Bar.{Bar}
@@ -24,6 +25,9 @@ use Rattle.rule_strategy.specs.Asked.{asked, asked_if, submits, updates, cancels
 use Rattle.backtest_core.specs.declared.watched.Watched.{Watched}
 use Rattle.backtest_core.specs.Phases.{IsOf, AreOf}
 use Rattle.backtest_core.specs.Watching.{mark_with, mark_in, marks_in}
+
+printed-moment : (z : ℤ) → IsPrintedMoment z → IsMoment z
+printed-moment z printed = (grind (arith, ints), grind (arith, ints))
 
 pub are_more : (at : ℤ) (asks : Bool) (xs ys : List Command) → AreOf at asks xs → AreOf at asks ys → AreOf at asks (xs ++ ys)
 are_more at asks [] ys all more = more
@@ -104,3 +108,14 @@ prices-sound at ws moment =
 
 pub prices-few : (at : Moment) (ws : List Watched) → length (marks_in at ws ++ Match at ∷ []) ≤ length ws + 1
 prices-few at ws = rw (length-append (marks_in at ws) (Match at ∷ [])) (omega (arith, marks-few at ws))
+
+pub told_sound : (at : Moment) (ws : List Watched) (old new : List Command) → IsPrintedMoment at.0 → new ≡ old ++ (marks_in at ws ++ Match at ∷ [])
+    → AreOf at.0 false old → AreOf at.0 false new
+told_sound at ws old new printed is all =
+    subst (AreOf at.0 false) (sym is)
+    (are_more at.0 false old (marks_in at ws ++ Match at ∷ []) all (prices-sound at ws (printed-moment at.0 printed)))
+
+pub told_few : (at : Moment) (ws : List Watched) (old new : List Command) → new ≡ old ++ (marks_in at ws ++ Match at ∷ [])
+    → length new ≤ length old + length ws + 1
+told_few at ws old new is =
+    rw (is, length-append old (marks_in at ws ++ Match at ∷ [])) (omega (arith, prices-few at ws))

@@ -19,11 +19,15 @@ StopsFor NoMemory limit P = Unit {0}
 StopsFor Requests limit P = (limit ≡ Requests) × P
 StopsFor Securities limit P = (limit ≡ Securities) × P
 
--- a reply that a core takes: the event's moment has a text, and what happened can be learnt
+-- the moment of an event has a text
+abbrev pub HasText : Reply → Type 0
+HasText (Event event) = IsPrintedMoment event.at.0
+HasText (Account cash equity) = Unit {0}
+HasText Done = Unit {0}
+
+-- a reply that a core takes: it can be printed, and what it tells can be learnt
 abbrev pub CanHear : Seen → Reply → Type 0
-CanHear seen (Event event) = IsPrintedMoment event.at.0 × CanLearn seen (Event event)
-CanHear seen (Account cash equity) = Unit {0}
-CanHear seen Done = Unit {0}
+CanHear seen reply = HasText reply × CanLearn seen reply
 
 -- a command that is given is of the moment, its numbers are in their ranges, and there is room for one less
 pub record Gives (old new : Core) (command : Command) : Type 0 where

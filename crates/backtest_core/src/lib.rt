@@ -2,6 +2,7 @@
 #![tactic(auto)]
 
 mod beginning;
+mod commanding;
 mod commands;
 mod asking;
 mod facts;

@@ -17,7 +17,11 @@ use lean_items::Bar;
 use lean_orders::{Command, PriceBar};
 
 /// Appends the marks of the securities whose bars end at a moment, and that the live orders are tried then.
-pub(crate) fn tell_prices(watched: &Vec<Watched>, at: Moment, out: &mut Vec<Command>) -> Result<(), NoMemory>
+pub(crate) fn tell_prices(
+    watched: &Vec<Watched>,
+    at: Moment,
+    out: &mut Vec<Command>,
+) -> Result<(), NoMemory>
     ensures told { OnOk result (out.new.items ≡ out.old.items ++ (marks_in at watched.now.items ++ Match at ∷ [])) }
 {
     for security in watched {
