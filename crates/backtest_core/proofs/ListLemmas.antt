@@ -5,11 +5,13 @@ use Rattle.std.specs.List.{AllZip, AllByRecursion as Each, cons_option}
 use Rattle.std.proofs.lemmas.Bool.Decides.{nat_tests}
 use Rattle.lean_items.specs.declared.arrival.Arrival.{Arrival}
 use Rattle.lean_items.specs.declared.bar.Bar.{Bar}
+use Rattle.bar_windows.specs.declared.spec.WindowSpec.{WindowSpec}
 use Rattle.clock_run.specs.Idle.{IsQuiet}
 use Rattle.backtest_core.specs.declared.watched.Watched.{Watched}
 use Rattle.backtest_core.specs.Standing.{Followed, history, feed_of}
 use Rattle.backtest_core.specs.Inside.{bar_for, bar_in, bars_in, with_bars}
 use Rattle.backtest_core.specs.Slices.{FitsOnce, AreInOrder, FeedsRise}
+use Rattle.backtest_core.specs.Asking.{HasWindows}
 use Rattle.backtest_core.specs.Watching.{first_bar, Watches, WatchesAt}
 use Rattle.backtest_core.proofs.HalfwayLemmas.{IsAt, each-at, each-front, Halfway, halfway-none, halfway-meets, halfway-next, halfway-all, zip-right}
 
@@ -102,3 +104,4 @@ pub record AreHearing (slice : List Arrival) (old now : List Watched) (from n : 
   pub len : length now ≡ length old
   pub within : from ≤ length slice
   pub heard : (t : ℕ) (fs : List Followed) → AreWell t slice old fs → HasHeard t slice from n now fs
+  pub windows : (specs : List WindowSpec) → Each (HasWindows specs) old → Each (HasWindows specs) now

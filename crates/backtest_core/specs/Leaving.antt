@@ -12,8 +12,11 @@ abbrev pub actives_of : List Watched → List Active
 actives_of ws = map active_in ws
 
 -- the symbols among some that are not active
+abbrev pub new_beside : List Active → List (List ℕ) → List (List ℕ)
+new_beside actives symbols = filter (λ symbol. not (is_active actives symbol)) symbols
+
 abbrev pub new_among : List Watched → List (List ℕ) → List (List ℕ)
-new_among ws symbols = filter (λ symbol. not (is_active (actives_of ws) symbol)) symbols
+new_among ws symbols = new_beside (actives_of ws) symbols
 
 -- a marked security is done with once nothing is held of it and no order of it is live
 abbrev pub is_done : Seen → Active → Bool

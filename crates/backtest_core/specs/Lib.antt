@@ -16,3 +16,4 @@ pub mod Text
 pub mod Naming
 pub mod Core
 pub mod Calls
+pub mod Beginning

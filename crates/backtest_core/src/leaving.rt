@@ -1,12 +1,14 @@
 //! Securities are marked at a choice, and leave once they are done with.
 ghost use Rattle.std.specs.Prelude.{◌≡◌, ◌≤◌, ◌++◌, [], ◌∷◌, ℕ, List, map, unsigned_abs, vec_len, if◌then◌else◌, not, ◌&&◌, IfOk, OnOk};
-ghost use Rattle.std.specs.List.{AllZip};
+ghost use Rattle.std.specs.List.{AllZip, AllByRecursion as Each};
+ghost use Rattle.bar_windows.specs.declared.spec.WindowSpec.{WindowSpec};
 ghost use Rattle.lean_fixed.specs.Ranges.{IsPrintedMoment};
 ghost use Rattle.universe_state.specs.Choice.{is_selected};
 ghost use Rattle.clock_book.specs.Seen.{Seen};
 ghost use Rattle.backtest_core.specs.Standing.{Followed};
 ghost use Rattle.backtest_core.specs.Inside.{marked_so};
 ghost use Rattle.backtest_core.specs.Watching.{active_in, WatchesAt};
+ghost use Rattle.backtest_core.specs.Asking.{HasWindows};
 ghost use Rattle.backtest_core.specs.Mirror.{Sees};
 ghost use Rattle.backtest_core.specs.Leaving.{is_done, leaving_of, staying_of, lines_of};
 ghost use Rattle.backtest_core.specs.Text.{lines_bytes};
@@ -22,6 +24,8 @@ use std::alloc::Global;
 pub(crate) fn mark_all(watched: &mut Vec<Watched>, symbols: &[Symbol])
     ensures marks { (t : ℕ) (fs : List Followed) → AllZip (WatchesAt t) watched.old.items fs
         → AllZip (WatchesAt t) watched.new.items (map (marked_so symbols.now) fs) }
+    ensures windows { (specs : List WindowSpec) → Each (HasWindows specs) watched.old.items
+        → Each (HasWindows specs) watched.new.items }
     ensures len { vec_len watched.new ≡ vec_len watched.old }
 {
     for i in 0..watched.len() {
@@ -32,7 +36,8 @@ pub(crate) fn mark_all(watched: &mut Vec<Watched>, symbols: &[Symbol])
 
 impl Watched {
     fn mark(&mut self, symbols: &[Symbol])
-        ensures { (t : ℕ) (f : Followed) → WatchesAt t self.old f → WatchesAt t self.new (marked_so symbols.now f) }
+        ensures specs { self.new.following.windows.specs ≡ self.old.following.windows.specs }
+        ensures marks { (t : ℕ) (f : Followed) → WatchesAt t self.old f → WatchesAt t self.new (marked_so symbols.now f) }
     {
         self.marked = is_to_leave(self.listed, symbols.contains(&self.symbol));
     }

@@ -1,7 +1,9 @@
 //! One moment of a backtest, computed: bars and coarse rows in, commands out, replies in, lines out.
 #![tactic(auto)]
 
+mod arriving;
 mod beginning;
+mod closing;
 mod commanding;
 mod commands;
 mod asking;

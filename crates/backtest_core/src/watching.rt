@@ -20,6 +20,7 @@ use lean_items::{Arrival, Bar, FeedNo, Item};
 impl Watched {
     /// Hears its bar of a moment, where there is one. A bar that does not fit is passed over.
     pub fn arrive(&mut self, bar: Option<Bar>)
+        ensures specs { self.new.following.windows.specs ≡ self.old.following.windows.specs }
         ensures arrives { (t : ℕ) (f : Followed) (slice : List Arrived) → Watches self.old f → IsQuiet t (history f)
             → FitsOnce t f (bars_in slice (feed_of f)) → bar ≡ first_bar (bars_in slice (feed_of f))
             → WatchesAt t self.new (with_bars slice f) }
@@ -32,6 +33,7 @@ impl Watched {
 
     // No bar of it ends at the moment.
     fn rest(&mut self)
+        ensures specs { self.new.following.windows.specs ≡ self.old.following.windows.specs }
         ensures rests { (t : ℕ) (f : Followed) → Watches self.old f → IsQuiet t (history f) → WatchesAt t self.new f }
     {
         self.ended = None;
@@ -40,6 +42,7 @@ impl Watched {
 
     // A bar of it ends at the moment, where the bar fits.
     fn take(&mut self, bar: &Bar)
+        ensures specs { self.new.following.windows.specs ≡ self.old.following.windows.specs }
         ensures takes { (t : ℕ) (f : Followed) → Watches self.old f → IsQuiet t (history f) → FitsNow t f bar.now
             → WatchesAt t self.new (record f { bars = f.bars ++ bar.now ∷ [] }) }
     {

@@ -5,6 +5,8 @@ use Rattle.backtest_core.specs.Inside.{bars_in, with_bars}
 use Rattle.backtest_core.specs.Slices.{FitsOnce}
 use Rattle.backtest_core.specs.Watching.{first_bar, Watches, WatchesAt}
 use Rattle.clock_run.specs.Idle.{IsQuiet}
+use Rattle.backtest_core.specs.Asking.{HasWindows}
+use Rattle.backtest_core.proofs.CoreLemmas.{each-set}
 use Rattle.backtest_core.proofs.ListLemmas.{HasHeard, heard-none, heard-next, heard-all}
 use Rattle.backtest_core.proofs.watchlist.arrive_all.Goals as goal
 
@@ -13,6 +15,7 @@ loop-i-init c = record {
   len = refl;
   within = omega arith;
   heard = λ t fs well. heard-none t c.args.slice.now c.args.watched.now.items fs well;
+  windows = λ specs all. all;
 }
 
 pub loop-i-preserved : goal.loop-i-preserved
@@ -35,6 +38,10 @@ loop-i-preserved c =
           (λ f. subst (λ w. Watches w f → IsQuiet t (history f) → FitsOnce t f (bars_in slice (feed_of f)) → c.find_bar-found.result.bar ≡ first_bar (bars_in slice (feed_of f))
           → WatchesAt t c.arrive.new.self (with_bars slice f)) here (c.arrive.ensures.arrives t f slice))
           (c.loop-i.invariant.heard t fs well));
+      windows = λ specs all.
+          each-set (HasWindows specs) i ws c.arrive.new.self c.index_mut-security.result.now within
+          (λ has. c.arrive.ensures.specs ∙ (ap (λ w. w.following.windows.specs) here ∙ has))
+          (c.loop-i.invariant.windows specs all);
     }
 
 pub returns-clause-arrives : goal.returns-clause-arrives
