@@ -2,7 +2,7 @@ ghost use Rattle.std.specs.Prelude.{◌≡◌, ◌+◌, ◌≤◌, [], ◌∷◌
 ghost use Rattle.lean_fixed.specs.Printed.{moment_text};
 ghost use Rattle.lean_fixed.specs.Ranges.{IsPrintedMoment};
 ghost use Rattle.lean_orders.specs.declared.event.What.TheVariants.{Submitted, Updated, Filled, Invalid};
-ghost use Rattle.report_lines.specs.EventLines.{price_or_dash, prices_text, symbol_text, what_text, event_line, IsEvent};
+ghost use Rattle.report_lines.specs.EventLines.{price_or_dash, prices_text, symbol_text, what_text, event_line};
 
 use crate::kinds::{cause_word, kind_word};
 use crate::put::{put, put_moment, put_money, put_number, put_price, put_quantity, put_word};
@@ -12,10 +12,11 @@ use lean_orders::{Cause, Fill, Kind, OrderEvent, What};
 // More bytes than any line has.
 const ROOM: usize = 256;
 
-/// Appends the line of an event and an LF. The event is one that has a line: its symbol is there, a fill's own symbol is
-/// the event's, and its numbers are in their ranges. At `NoMemory` the vector is as it was.
+/// Appends the line of an event and an LF. Its moment is one that has a text. It is read back as the event (`read_event`)
+/// where the symbol is there, a fill's own symbol is the event's, and the numbers are in their ranges. At `NoMemory` the
+/// vector is as it was.
 pub fn write_event(event: &OrderEvent, out: &mut Vec<u8>) -> Result<(), NoMemory>
-    requires { IsEvent event.now }
+    requires { IsPrintedMoment event.now.at.0 }
     ensures ok { OnOk result (out.new.items ≡ out.old.items ++ (event_line event.now ++ 10 ∷ [])) }
     ensures err { OnErr result (out.new.items ≡ out.old.items) }
 {

@@ -1,0 +1,15 @@
+pub mod PhaseLemmas
+pub mod PartLemmas
+pub mod StartLemmas
+pub mod MomentLemmas
+pub mod FollowLemmas
+pub mod HalfwayLemmas
+pub mod ListLemmas
+pub mod LiveLemmas
+pub mod AskLemmas
+pub mod SoundLemmas
+pub mod TableLemmas
+pub mod LearnLemmas
+pub mod NamingLemmas
+pub mod CoreLemmas
+pub mod StandLemmas

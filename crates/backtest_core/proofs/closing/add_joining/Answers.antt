@@ -1,0 +1,10 @@
+use Rattle.std.proofs.Common.{◌≡◌, ◌++◌, ◌∷◌, [], ap, ◌∙◌}
+use Rattle.std.proofs.lemmas.List.{map-append}
+use Rattle.backtest_core.specs.Waiting.{subscription_in, subscriptions_in}
+use Rattle.backtest_core.proofs.closing.add_joining.Goals as goal
+
+pub returns-clause-waits : goal.returns-clause-waits
+returns-clause-waits c = λ t at.
+    ap subscriptions_in c.in_ok-push.ensures.items
+    ∙ (map-append subscription_in c.args.out.now.items (c.joining.result ∷ [])
+    ∙ ap (λ s. subscriptions_in c.args.out.now.items ++ s ∷ []) (c.joining.ensures t at))
