@@ -10,7 +10,7 @@ use Rattle.feed_paths.specs.Paths.{path_of}
 use Rattle.equity_csv.specs.Written.{minute_line}
 use Rattle.equity_csv.specs.declared.row.Row.{Row}
 use Rattle.data_maker.specs.Texts.{hours_text, plan_text, symbol_of, securities}
-use Rattle.data_maker.specs.Walk.{seed, first_price, walk}
+use Rattle.data_maker.specs.Walk.{seed, first_price, walked}
 
 -- ---- files
 
@@ -39,7 +39,7 @@ abbrev pub is_workday : ℕ → Bool
 is_workday day = nat_le 1 (weekday day) && nat_le (weekday day) 5
 
 -- from 2013-10-07 to 2013-10-18, which is day 15,996
-abbrev pub days : List ℕ
+unfoldable pub days : List ℕ
 days = filter is_workday (range_with_len 15985 12)
 
 -- the minutes of a day from 09:30 to 15:59
@@ -59,19 +59,24 @@ abbrev pub minute_files : List ℕ → List ℕ → List Row → List File
 minute_files symbol [] rows = []
 minute_files symbol (day ∷ days) rows = minute_file symbol day (take 390 rows) ∷ minute_files symbol days (drop 390 rows)
 
+-- some files and then the minute files of some days, on which the walk goes on from a random number and a price
+abbrev pub with_days : Files → List ℕ → ℕ → ℕ → List ℕ → Files
+with_days files symbol random price days =
+    with_files files (minute_files symbol days (walked random price (flat_map minutes days)))
+
 -- the minute files of a security, whose prices walk over all days
-abbrev pub security_files : ℕ → ℕ → List File
+unfoldable pub security_files : ℕ → ℕ → List File
 security_files number security =
-    minute_files (symbol_of security) days (walk (seed number security) (first_price security) (flat_map minutes days))
+    minute_files (symbol_of security) days (walked (seed number security) (first_price security) (flat_map minutes days))
 
 -- ---- the folder
 
-abbrev pub hours_file : File
+unfoldable pub hours_file : File
 hours_file = record { path = codes "market-hours/market-hours-database.json"; bytes = hours_text }
 
-abbrev pub plan_file : File
+unfoldable pub plan_file : File
 plan_file = record { path = codes "demo.toml"; bytes = plan_text }
 
 -- all files of the folder of a number
-abbrev pub made_files : ℕ → List File
+unfoldable pub made_files : ℕ → List File
 made_files number = hours_file ∷ flat_map (security_files number) securities ++ plan_file ∷ []

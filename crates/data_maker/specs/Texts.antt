@@ -30,8 +30,7 @@ settings_text =
 -- the part of a security
 unfoldable pub security_text : ℕ → List ℕ
 security_text security =
-    text (codes "[[securities]]" ∷ (codes "symbol = \"" ++ symbol_of security ++ codes "\"") ∷ [])
-    ++ text (codes "resolution = \"minute\"" ∷ codes "period = 15" ∷ [])
+    codes "[[securities]]\nsymbol = \"" ++ symbol_of security ++ codes "\"\nresolution = \"minute\"\nperiod = 15\n"
 
 unfoldable pub rules_text : List ℕ
 rules_text =
@@ -44,8 +43,8 @@ rules_text =
     ++ text (codes "[[rules]]" ∷ codes "when = \"position == 0 and orders > 0\"" ∷ codes "do = \"cancel\"" ∷ [])
 
 -- the numbers of the securities
-abbrev pub securities : List ℕ
+unfoldable pub securities : List ℕ
 securities = range_with_len 0 16
 
-abbrev pub plan_text : List ℕ
+unfoldable pub plan_text : List ℕ
 plan_text = settings_text ++ flat_map security_text securities ++ rules_text

@@ -41,5 +41,5 @@ rows (start ∷ starts) (random ∷ randoms) (opening ∷ openings) = row_from s
 rows _ _ _ = []
 
 -- the rows of some minutes, behind a random number and from a price on
-abbrev pub walk : ℕ → ℕ → List ℕ → List Row
-walk random price starts = rows starts (randoms (length starts) random) (prices price (randoms (length starts) random))
+abbrev pub walked : ℕ → ℕ → List ℕ → List Row
+walked random price starts = rows starts (randoms (length starts) random) (prices price (randoms (length starts) random))

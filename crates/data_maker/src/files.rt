@@ -1,5 +1,5 @@
 //! The files of a made folder.
-ghost use Rattle.std.specs.Prelude.{◌≡◌, ◌<◌, ◌≤◌, ◌++◌, Some, OnOk, IfOk, string_bytes};
+ghost use Rattle.std.specs.Prelude.{◌≡◌, ℕ, ◌+◌, ◌<◌, ◌≤◌, List, ◌∷◌, ◌++◌, take, drop, filter, OnOk, IfOk, string_bytes};
 ghost use Rattle.std.specs.List.{flat_map};
 ghost use Rattle.lean_fixed.specs.Calendar.{last_day};
 ghost use Rattle.lean_fixed.specs.declared.resolution.Resolution.TheVariants.{Minute};
@@ -7,9 +7,9 @@ ghost use Rattle.lean_items.specs.declared.feed_key.FeedKind.TheVariants.{Equity
 ghost use Rattle.lean_io.specs.MemFolder.{map_files};
 ghost use Rattle.feed_paths.specs.Paths.{path_of};
 ghost use Rattle.equity_csv.specs.Written.{IsRow};
-ghost use Rattle.data_maker.specs.Walk.{walk};
+ghost use Rattle.data_maker.specs.Walk.{walked};
 ghost use Rattle.data_maker.specs.Texts.{securities};
-ghost use Rattle.data_maker.specs.MadeFiles.{with_file, with_files, files_of, is_workday, minutes, row_line, security_files, hours_file, plan_file, made_files};
+ghost use Rattle.data_maker.specs.MadeFiles.{with_file, with_files, with_days, files_of, is_workday, minutes, row_line, security_files, hours_file, plan_file, made_files};
 ghost use Rattle.data_maker.specs.MadeState.{told};
 
 use crate::made_folder::MadeFolder;
@@ -70,6 +70,7 @@ pub fn make(alloc: Global, number: u64) -> Result<MadeFolder, NoMemory>
 }
 
 // The minute files of all securities.
+#[tactic(auto, unfolding(crate::specs::Texts::securities))]
 fn put_securities(alloc: Global, number: u64, files: &mut FileMap) -> Result<(), NoMemory>
     requires { number ≤ 999999 }
     ensures { OnOk result (map_files files.new
@@ -96,11 +97,34 @@ fn put_security(
     let symbol = symbol_of(security);
     let mut walk = Walk::new(number, security);
     for day in FIRST_DAY..END_DAY {
-        if is_workday(day) {
-            put_day(alloc, symbol, day, &mut walk, files)?;
-        }
+        pass_day(alloc, symbol, day, &mut walk, files)?;
     }
     Ok(())
+}
+
+// The minute file of a day that is no weekend.
+fn pass_day(
+    alloc: Global,
+    symbol: Symbol,
+    day: u32,
+    walk: &mut Walk,
+    files: &mut FileMap,
+) -> Result<(), NoMemory>
+    requires day { day ≤ last_day }
+    requires range { walk.old.random < 2147483648 }
+    requires least { 10000 ≤ walk.old.price }
+    requires most { walk.old.price ≤ 100000000 }
+    ensures files { OnOk result ((later : List ℕ)
+        → with_days (map_files files.new) symbol walk.new.random walk.new.price (filter is_workday later)
+        ≡ with_days (map_files files.old) symbol walk.old.random walk.old.price (filter is_workday (day ∷ later))) }
+    ensures range { OnOk result (walk.new.random < 2147483648) }
+    ensures least { OnOk result (10000 ≤ walk.new.price) }
+    ensures most { OnOk result (walk.new.price ≤ walk.old.price + 390000) }
+{
+    if !is_workday(day) {
+        return Ok(());
+    }
+    put_day(alloc, symbol, day, walk, files)
 }
 
 fn is_workday(day: u32) -> bool
@@ -118,15 +142,38 @@ fn put_day(
     day: u32,
     walk: &mut Walk,
     files: &mut FileMap,
-) -> Result<(), NoMemory> {
+) -> Result<(), NoMemory>
+    requires day { day ≤ last_day }
+    requires range { walk.old.random < 2147483648 }
+    requires least { 10000 ≤ walk.old.price }
+    requires most { walk.old.price ≤ 100000000 }
+    ensures files { OnOk result ((later : List ℕ)
+        → with_days (map_files files.new) symbol walk.new.random walk.new.price later
+        ≡ with_days (map_files files.old) symbol walk.old.random walk.old.price (day ∷ later)) }
+    ensures range { OnOk result (walk.new.random < 2147483648) }
+    ensures least { OnOk result (10000 ≤ walk.new.price) }
+    ensures most { OnOk result (walk.new.price ≤ walk.old.price + 390000) }
+{
     let bytes = day_bytes(alloc, day, walk)?;
     let path = minute_path(alloc, symbol, day)?;
     put(files, path, bytes)
 }
 
 // The lines of the rows of a day.
-fn day_bytes(alloc: Global, day: u32, walk: &mut Walk) -> Result<Vec<u8>, NoMemory> {
-    let midnight = day as u64 * MINUTES_PER_DAY;
+fn day_bytes(alloc: Global, day: u32, walk: &mut Walk) -> Result<Vec<u8>, NoMemory>
+    requires day { day ≤ last_day }
+    requires range { walk.old.random < 2147483648 }
+    requires least { 10000 ≤ walk.old.price }
+    requires most { walk.old.price ≤ 100000000 }
+    ensures bytes { IfOk result (λ bytes. (later : List ℕ) → bytes.items
+        ≡ flat_map row_line (take 390 (walked walk.old.random walk.old.price (minutes day ++ later)))) }
+    ensures left { OnOk result ((later : List ℕ) → walked walk.new.random walk.new.price later
+        ≡ drop 390 (walked walk.old.random walk.old.price (minutes day ++ later))) }
+    ensures range { OnOk result (walk.new.random < 2147483648) }
+    ensures least { OnOk result (10000 ≤ walk.new.price) }
+    ensures most { OnOk result (walk.new.price ≤ walk.old.price + 390000) }
+{
+    let midnight = MINUTES_PER_DAY * day as u64;
     let mut out = Vec::with_capacity(alloc, ROOM)?;
     for minute in FIRST_MINUTE..END_MINUTE {
         let row = walk.next_row(midnight + minute);

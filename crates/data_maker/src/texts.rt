@@ -66,6 +66,7 @@ pub fn hours_bytes(alloc: Global) -> Result<Vec<u8>, NoMemory>
 }
 
 // The bytes of the algorithm file.
+#[tactic(auto, unfolding(crate::specs::Texts::plan_text))]
 pub fn plan_bytes(alloc: Global) -> Result<Vec<u8>, NoMemory>
     ensures { IfOk result (λ bytes. bytes.items ≡ plan_text) }
 {
@@ -92,6 +93,7 @@ fn append_rules(out: &mut Vec<u8>) -> Result<(), NoMemory>
     Ok(())
 }
 
+#[tactic(auto, unfolding(crate::specs::Texts::securities))]
 fn append_securities(out: &mut Vec<u8>) -> Result<(), NoMemory>
     ensures { OnOk result (out.new.items ≡ out.old.items ++ flat_map security_text securities) }
 {
