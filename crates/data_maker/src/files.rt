@@ -66,7 +66,8 @@ pub fn make(alloc: Global, number: u64) -> Result<MadeFolder, NoMemory>
         String::from_str(alloc, PLAN_PATH)?,
         plan_bytes(alloc)?,
     )?;
-    MadeFolder::of(alloc, files)
+    let folder = MadeFolder::of(alloc, files)?;
+    Ok(folder)
 }
 
 // The minute files of all securities.
@@ -121,10 +122,11 @@ fn pass_day(
     ensures least { OnOk result (10000 ≤ walk.new.price) }
     ensures most { OnOk result (walk.new.price ≤ walk.old.price + 390000) }
 {
-    if !is_workday(day) {
+    if is_workday(day) {
+        put_day(alloc, symbol, day, walk, files)?;
         return Ok(());
     }
-    put_day(alloc, symbol, day, walk, files)
+    Ok(())
 }
 
 fn is_workday(day: u32) -> bool
@@ -156,7 +158,8 @@ fn put_day(
 {
     let bytes = day_bytes(alloc, day, walk)?;
     let path = minute_path(alloc, symbol, day)?;
-    put(files, path, bytes)
+    put(files, path, bytes)?;
+    Ok(())
 }
 
 // The lines of the rows of a day.
