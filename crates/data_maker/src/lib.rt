@@ -7,6 +7,7 @@ mod files;
 mod made_folder;
 mod texts;
 mod walk;
+mod worked;
 
 pub use files::make;
 pub use made_folder::{MadeFolder, MadeHand};
