@@ -71,11 +71,17 @@ security_files number security =
 
 -- ---- the folder
 
+abbrev pub hours_path : List ℕ
+hours_path = codes "market-hours/market-hours-database.json"
+
+abbrev pub plan_path : List ℕ
+plan_path = codes "demo.toml"
+
 unfoldable pub hours_file : File
-hours_file = record { path = codes "market-hours/market-hours-database.json"; bytes = hours_text }
+hours_file = record { path = hours_path; bytes = hours_text }
 
 unfoldable pub plan_file : File
-plan_file = record { path = codes "demo.toml"; bytes = plan_text }
+plan_file = record { path = plan_path; bytes = plan_text }
 
 -- all files of the folder of a number
 unfoldable pub made_files : ℕ → List File

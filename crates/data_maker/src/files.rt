@@ -9,7 +9,7 @@ ghost use Rattle.feed_paths.specs.Paths.{path_of};
 ghost use Rattle.equity_csv.specs.Written.{IsRow};
 ghost use Rattle.data_maker.specs.Walk.{walked};
 ghost use Rattle.data_maker.specs.Texts.{securities};
-ghost use Rattle.data_maker.specs.MadeFiles.{with_file, with_files, with_days, files_of, is_workday, minutes, row_line, security_files, hours_file, plan_file, made_files};
+ghost use Rattle.data_maker.specs.MadeFiles.{with_file, with_files, with_days, files_of, is_workday, minutes, row_line, security_files, hours_path, plan_path, made_files};
 ghost use Rattle.data_maker.specs.MadeState.{told};
 
 use crate::made_folder::MadeFolder;
@@ -55,19 +55,23 @@ pub fn make(alloc: Global, number: u64) -> Result<MadeFolder, NoMemory>
     ensures hands { IfOk result (λ folder. folder.hands ≡ 0) }
 {
     let mut files = BTreeMap::new(alloc);
-    put(
-        &mut files,
-        String::from_str(alloc, HOURS_PATH)?,
-        hours_bytes(alloc)?,
-    )?;
+    put(&mut files, hours_path(alloc)?, hours_bytes(alloc)?)?;
     put_securities(alloc, number, &mut files)?;
-    put(
-        &mut files,
-        String::from_str(alloc, PLAN_PATH)?,
-        plan_bytes(alloc)?,
-    )?;
+    put(&mut files, plan_path(alloc)?, plan_bytes(alloc)?)?;
     let folder = MadeFolder::of(alloc, files)?;
     Ok(folder)
+}
+
+fn hours_path(alloc: Global) -> Result<String, NoMemory>
+    ensures { IfOk result (λ path. string_bytes path ≡ hours_path) }
+{
+    Ok(String::from_str(alloc, HOURS_PATH)?)
+}
+
+fn plan_path(alloc: Global) -> Result<String, NoMemory>
+    ensures { IfOk result (λ path. string_bytes path ≡ plan_path) }
+{
+    Ok(String::from_str(alloc, PLAN_PATH)?)
 }
 
 // The minute files of all securities.
