@@ -1,5 +1,5 @@
 -- The files of a made folder: a large valid market, from a number.
-use Rattle.std.specs.Prelude.{ℕ, ◌+◌, Bool, ◌&&◌, nat_le, List, [], ◌∷◌, ◌++◌, codes, filter, take, drop, if◌then◌else◌, bytes_eq, Option, Some, None}
+use Rattle.std.specs.Prelude.{ℕ, ◌+◌, Bool, ◌&&◌, nat_le, List, [], ◌∷◌, ◌++◌, codes, filter, take, drop, if◌then◌else◌, bytes_eq, Some, None}
 use Rattle.std.specs.List.{flat_map, range_with_len}
 use Rattle.lean_fixed.specs.Calendar.{weekday}
 use Rattle.lean_fixed.specs.Moments.{midnight}

@@ -1,5 +1,5 @@
 use Rattle.std.proofs.Common.{ℕ, suc, ◌≡◌, ◌+◌, ◌-◌, ◌*◌, List, arith}
-use Rattle.data_maker.proofs.Walking.{rows_left, rows-passed, text-more, left-more}
+use Rattle.data_maker.proofs.Walking.{rows-passed, text-more, left-more}
 use Rattle.data_maker.proofs.files.day_bytes.Goals as goal
 
 pub loop-minute-preserved : goal.loop-minute-preserved
