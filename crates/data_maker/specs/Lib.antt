@@ -1,0 +1,4 @@
+pub mod Walk
+pub mod Texts
+pub mod MadeFiles
+pub mod MadeState
