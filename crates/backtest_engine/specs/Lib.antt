@@ -1,0 +1,5 @@
+pub mod Meaning
+pub mod Lists
+pub mod Reports
+pub mod Turns
+pub mod Phased

@@ -1,0 +1,15 @@
+//! The run of a backtest over any strategy, any pool of feeds, any desk and any sink. The definition walks every minute of a
+//! window; the run goes from one moment at which anything can happen to the next, and what it writes is what the definition
+//! says, whoever reads the files and whoever owns the book.
+#![tactic(auto)]
+
+mod changes;
+mod limits;
+mod phase;
+mod phases;
+mod strategy;
+
+pub use changes::Changes;
+pub use limits::{Limit, Stop};
+pub use phase::Phase;
+pub use strategy::Strategy;
