@@ -44,8 +44,8 @@ pub(crate) fn play_phase<C: Strategy, D: Desk>(
     ensures closed { (D.starved desk.new ≡ true) ⊎ (D.answered desk.new ≡ D.submitted desk.new) }
     ensures fed { OnOk result (D.starved desk.new ≡ false) }
     ensures done { OnOk result (D.answered desk.new ≡ D.submitted desk.new) }
-    ensures few { D.submitted desk.new + C.left core.new ≤ D.submitted desk.old + C.left core.old }
-    ensures orders { D.orders desk.new + C.orders core.new ≤ D.orders desk.old + C.orders core.old }
+    ensures few { OnOk result (D.submitted desk.new + C.left core.new ≤ D.submitted desk.old + C.left core.old) }
+    ensures orders { OnOk result (D.orders desk.new + C.orders core.new ≤ D.orders desk.old + C.orders core.old) }
 {
     match ask_all(core, desk, phase) {
         Ok(()) => match hear_all(core, desk) {
@@ -70,8 +70,8 @@ fn ask_all<C: Strategy, D: Desk>(core: &mut C, desk: &mut D, phase: Phase) -> Re
         → AskedAll m (C.plays core.new m) turn ds result) }
     ensures fed { OnOk result (D.starved desk.new ≡ false) }
     ensures starved { IfErr result (λ why. IsFed (D.starved desk.new) why) }
-    ensures few { D.submitted desk.new + C.left core.new ≤ D.submitted desk.old + C.left core.old }
-    ensures orders { D.orders desk.new + C.orders core.new ≤ D.orders desk.old + C.orders core.old }
+    ensures few { OnOk result (D.submitted desk.new + C.left core.new ≤ D.submitted desk.old + C.left core.old) }
+    ensures orders { OnOk result (D.orders desk.new + C.orders core.new ≤ D.orders desk.old + C.orders core.old) }
 {
     'commands: loop {
         match core.next_command(phase) {
