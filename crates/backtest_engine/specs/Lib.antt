@@ -3,3 +3,4 @@ pub mod Lists
 pub mod Reports
 pub mod Turns
 pub mod Phased
+pub mod Played

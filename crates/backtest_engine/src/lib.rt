@@ -5,6 +5,7 @@
 
 mod changes;
 mod limits;
+mod moments;
 mod phase;
 mod phases;
 mod strategy;
