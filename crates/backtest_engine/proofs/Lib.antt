@@ -1,2 +1,3 @@
 pub mod PhaseLemmas
 pub mod MomentLemmas
+pub mod HeadLemmas

@@ -4,3 +4,4 @@ pub mod Reports
 pub mod Turns
 pub mod Phased
 pub mod Played
+pub mod Stands
