@@ -1,3 +1,4 @@
 pub mod PhaseLemmas
 pub mod MomentLemmas
 pub mod HeadLemmas
+pub mod FeedLemmas

@@ -5,3 +5,4 @@ pub mod Turns
 pub mod Phased
 pub mod Played
 pub mod Stands
+pub mod Opened

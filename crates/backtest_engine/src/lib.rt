@@ -4,6 +4,7 @@
 #![tactic(auto)]
 
 mod changes;
+mod feeds;
 mod limits;
 mod moments;
 mod phase;
