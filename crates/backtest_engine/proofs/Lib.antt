@@ -2,3 +2,4 @@ pub mod PhaseLemmas
 pub mod MomentLemmas
 pub mod HeadLemmas
 pub mod FeedLemmas
+pub mod MinuteLemmas

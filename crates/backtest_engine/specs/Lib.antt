@@ -6,3 +6,4 @@ pub mod Phased
 pub mod Played
 pub mod Stands
 pub mod Opened
+pub mod Moved

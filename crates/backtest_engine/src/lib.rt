@@ -4,8 +4,10 @@
 #![tactic(auto)]
 
 mod changes;
+mod ending;
 mod feeds;
 mod limits;
+mod minute;
 mod moments;
 mod phase;
 mod phases;
