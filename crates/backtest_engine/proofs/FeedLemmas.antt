@@ -210,7 +210,7 @@ slice-last : {X : Type 0} (xs : List X) (x : X) → slice_get (xs ++ x ∷ []) (
 slice-last [] x = refl
 slice-last (y ∷ xs) x = slice-last xs x
 
-some-same : (x y : Taken) → (let o : Option Taken = Some x in o) ≡ Some y → x ≡ y
+pub some-same : (x y : Taken) → (let o : Option Taken = Some x in o) ≡ Some y → x ≡ y
 some-same x y e = ap (of x) e
   where
     of : Taken → Option Taken → Taken
