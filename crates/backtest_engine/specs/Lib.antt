@@ -7,3 +7,4 @@ pub mod Played
 pub mod Stands
 pub mod Opened
 pub mod Moved
+pub mod Walked

@@ -12,6 +12,7 @@ mod moments;
 mod phase;
 mod phases;
 mod strategy;
+mod walk;
 
 pub use changes::Changes;
 pub use limits::{Limit, Stop};
