@@ -3,3 +3,4 @@ pub mod MomentLemmas
 pub mod HeadLemmas
 pub mod FeedLemmas
 pub mod MinuteLemmas
+pub mod WalkLemmas
