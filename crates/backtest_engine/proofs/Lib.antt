@@ -4,3 +4,4 @@ pub mod HeadLemmas
 pub mod FeedLemmas
 pub mod MinuteLemmas
 pub mod WalkLemmas
+pub mod KnownLemmas
