@@ -8,3 +8,5 @@ pub mod Stands
 pub mod Opened
 pub mod Moved
 pub mod Walked
+pub mod Reported
+pub mod Last

@@ -3,9 +3,12 @@
 //! says, whoever reads the files and whoever owns the book.
 #![tactic(auto)]
 
+mod backtest;
 mod changes;
+mod ended;
 mod ending;
 mod feeds;
+mod last;
 mod limits;
 mod minute;
 mod moments;
@@ -14,7 +17,9 @@ mod phases;
 mod strategy;
 mod walk;
 
+pub use backtest::run;
 pub use changes::Changes;
+pub use ended::Ended;
 pub use limits::{Limit, Stop};
 pub use phase::Phase;
 pub use strategy::Strategy;
