@@ -35,7 +35,7 @@ use Rattle.backtest_engine.proofs.WalkLemmas.{Comes, Came, came, cut-short, come
 abbrev pub CoreStands : Type 0 → Type 1
 CoreStands Own = (m : Meaning Own) → State Own → List FeedKey → Type 0
 
-nothing-ran : {Own : Type 0} (m : Meaning Own) (lists : FeedKey → List Item) (first : ℕ) (s0 : State Own) → minutes m lists first s0 0 ≡ record { lines = []; state = s0; stop = None }
+pub nothing-ran : {Own : Type 0} (m : Meaning Own) (lists : FeedKey → List Item) (first : ℕ) (s0 : State Own) → minutes m lists first s0 0 ≡ record { lines = []; state = s0; stop = None }
 unfolding run
 nothing-ran m lists first s0 = refl
 

@@ -5,3 +5,4 @@ pub mod FeedLemmas
 pub mod MinuteLemmas
 pub mod WalkLemmas
 pub mod KnownLemmas
+pub mod StartLemmas

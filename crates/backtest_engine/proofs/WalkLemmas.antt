@@ -42,7 +42,7 @@ use Rattle.backtest_engine.proofs.HeadLemmas.{all-later, all-quiet, calm-heads, 
 
 -- ---- what was written
 
-front-behind : (first mid last : Option (List ℕ)) (a b : List ℕ) → IsTaken first mid a → IsFront mid last b → IsFront first last (a ++ b)
+pub front-behind : (first mid last : Option (List ℕ)) (a b : List ℕ) → IsTaken first mid a → IsFront mid last b → IsFront first last (a ++ b)
 front-behind first mid last a b taken f = record {
   written = a ++ f.written;
   left = f.left;

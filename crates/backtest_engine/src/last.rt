@@ -22,7 +22,7 @@ use lean_fixed::NoMemory;
 use lean_io::{Sink, WriteFault, write_whole};
 use lean_items::{Bad, FeedKind};
 use order_book::Book;
-use report_pages::{Page, append_refusal, flush};
+use report_pages::{Page, Stop, append_refusal, flush};
 use std::alloc::Global;
 
 // Writes what comes behind the last moment, and says how the run ended.
@@ -90,13 +90,14 @@ fn print_refusal<S: Sink>(alloc: Global, kind: FeedKind, bad: &Bad, out: &mut S)
 // Writes a page.
 fn print_page<S: Sink>(page: &mut Page, ended: Ended, out: &mut S) -> Ended
     ensures told { IsWritten (S.told out.old) (S.told out.new) page.old ended result }
-    ensures ends { (result ≡ ended) ⊎ (result ≡ Ended.WriteFault) }
+    ensures ends { (result ≡ ended) ⊎ ((result ≡ Ended.NoMemory) ⊎ (result ≡ Ended.WriteFault)) }
     ensures write { ended ≢ Ended.WriteFault → result ≡ Ended.WriteFault → Rose (S.faults out.old) (S.faults out.new) }
     ensures sink_grows { S.faults out.old ≤ S.faults out.new }
 {
     match flush(page, out) {
         Ok(()) => ended,
-        Err(_) => Ended::WriteFault,
+        Err(Stop::NoMemory) => Ended::NoMemory,
+        Err(Stop::WriteFault) => Ended::WriteFault,
     }
 }
 
