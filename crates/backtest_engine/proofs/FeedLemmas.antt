@@ -1,7 +1,7 @@
 -- Feeds that are added and removed, one after another.
-use Rattle.std.proofs.Common.{◌≡◌, ◌≢◌, ℕ, zero, suc, ◌+◌, ◌<◌, ◌≤◌, ◌⊎◌, Bool, true, false, cond, eqb, ℤ, pos, ◌+ℤ◌, ◌≤ℤ◌, List, [], ◌∷◌, ◌++◌, length, length-append, Option, Some, None, option_map, refl, sym, ap, ◌∙◌, subst, inl, inr, arith, append_assoc, append-nil, drop, get_or}
-use Rattle.std.specs.Prelude.{not, nat_lt, slice_get, Ok, fold}
-use Rattle.std.specs.List.{All, AllZip, Contains, filter}
+use Rattle.std.proofs.Common.{◌≡◌, ◌≢◌, ℕ, zero, suc, ◌+◌, ◌<◌, Bool, true, false, cond, eqb, ℤ, pos, ◌+ℤ◌, ◌≤ℤ◌, List, [], ◌∷◌, ◌++◌, length, Option, Some, None, option_map, refl, sym, ap, ◌∙◌, subst, inl, inr, arith, append_assoc, append-nil, drop, get_or}
+use Rattle.std.specs.Prelude.{not, nat_lt, slice_get, Ok}
+use Rattle.std.specs.List.{All}
 use Rattle.std.proofs.lemmas.Bool.{cases_Bool, true≢false}
 use Rattle.std.proofs.lemmas.Bool.Decides.{eqb_tells}
 use Rattle.std.proofs.Math.Seq.{drop-cons}
@@ -14,7 +14,7 @@ use Rattle.lean_items.specs.declared.feed_no.FeedNo.{FeedNo}
 use Rattle.lean_items.specs.declared.item.Item.{Item}
 use Rattle.lean_items.specs.declared.item.Item.TheVariants.{Faulted}
 use Rattle.lean_items.specs.Given.{end_of, is_last, IsRow}
-use Rattle.lean_items.specs.Taken.{Start, Feeds, Taken, Follows, AllFollow, added_to, more}
+use Rattle.lean_items.specs.Taken.{Start, Feeds, Taken, Follows, added_to, more}
 use Rattle.frontier_sync.specs.Heads.{arrival, put, without, fits_first, EndsFrom, AreOpen}
 use Rattle.frontier_sync.specs.Slices.{taken_one, TakesOfOne}
 use Rattle.frontier_sync.specs.Stands.{AtHead, IsTaken}
@@ -23,7 +23,7 @@ use Rattle.frontier_sync.proofs.PlaceLemmas.{kept-all, kept-none}
 use Rattle.frontier_sync.proofs.StandLemmas.{head-first}
 use Rattle.backtest_engine.specs.Meaning.{Subscription}
 use Rattle.backtest_engine.specs.Turns.{subscription, numbered, without_one, without_all}
-use Rattle.backtest_engine.specs.Stands.{AreLists, IsAt, AreAt, IsEarlier, Stock, MayStart}
+use Rattle.backtest_engine.specs.Stands.{IsAt, AreAt, IsEarlier, Stock, MayStart}
 use Rattle.backtest_engine.specs.Opened.{AreNumbered, without_heads, Opened}
 
 -- ---- heads with rising numbers

@@ -1,29 +1,28 @@
 -- The heads of the active feeds in the lists of their keys, from one moment to the next.
-use Rattle.std.proofs.Common.{◌≡◌, ◌≢◌, ℕ, ◌+◌, ◌<◌, ◌≤◌, ◌⊎◌, Bool, true, false, eqb, ℤ, pos, ◌+ℤ◌, ◌≤ℤ◌, ◌<ℤ◌, List, [], ◌∷◌, ◌++◌, length, map, Option, Some, None, option_map, unwrap_or, refl, sym, ap, ◌∙◌, subst, inl, inr, arith, append-nil, append_assoc}
-use Rattle.std.specs.Prelude.{not, ◌&&◌, ◌==◌, int_le, int_lt}
+use Rattle.std.proofs.Common.{◌≡◌, ℕ, ◌<◌, ◌⊎◌, Bool, true, false, ℤ, pos, ◌+ℤ◌, ◌≤ℤ◌, ◌<ℤ◌, List, [], ◌∷◌, ◌++◌, map, Option, Some, None, option_map, unwrap_or, refl, sym, ap, ◌∙◌, subst, inl, inr, arith, append-nil, append_assoc}
+use Rattle.std.specs.Prelude.{◌&&◌, ◌==◌, int_le}
 use Rattle.std.specs.List.{All, AllZip, Contains, filter, find}
 use Rattle.std.specs.Option.{option_or}
-use Rattle.std.proofs.lemmas.Bool.{cases_Bool, true≢false, false≢true, and_parts}
-use Rattle.std.proofs.lemmas.Bool.Decides.{Decides-int_eq, eqb_tells}
+use Rattle.std.proofs.lemmas.Bool.{cases_Bool, true≢false}
 use Rattle.std.proofs.lemmas.Int.{ints}
 use Rattle.std.proofs.lemmas.Option.{none-some}
-use Rattle.std.proofs.lemmas.List.Elements.{All-nil, All-cons, All-head, All-tail, All-weaker, Contains-append_left, Contains-push}
+use Rattle.std.proofs.lemmas.List.Elements.{All-head, All-tail, All-weaker, Contains-append_left, Contains-push}
 use Rattle.lean_items.specs.declared.arrival.Arrival.{Arrival}
 use Rattle.lean_items.specs.declared.bad.Bad.{Bad as BadLine}
 use Rattle.lean_items.specs.declared.feed_key.FeedKey.{FeedKey}
 use Rattle.lean_items.specs.declared.feed_no.FeedNo.{FeedNo}
 use Rattle.lean_items.specs.declared.item.Item.{Item}
 use Rattle.lean_items.specs.declared.item.Item.TheVariants.{Bar, Coarse, Bad, Faulted, End}
-use Rattle.lean_items.specs.Given.{end_of, is_last}
+use Rattle.lean_items.specs.Given.{end_of}
 use Rattle.lean_items.specs.Taken.{Feeds, Taken, Follows, AllFollow, more}
-use Rattle.frontier_sync.specs.Heads.{arrival, stops, without, fits_first, EndsFrom, EndsAfter, AreRising}
+use Rattle.frontier_sync.specs.Heads.{arrival, stops, EndsFrom, AreRising}
 use Rattle.frontier_sync.specs.Slices.{ends_at, given_of, slice_of, Refilled, IsSliced, taken_all}
-use Rattle.frontier_sync.specs.Stands.{EndsBefore, AtHead, AreBars, IsList, IsTaken}
-use Rattle.frontier_sync.proofs.StandLemmas.{feed-step, none-taken, head-later, none-found, stood, stood-last}
+use Rattle.frontier_sync.specs.Stands.{EndsBefore, AtHead, AreBars, IsList}
+use Rattle.frontier_sync.proofs.StandLemmas.{feed-step, none-taken, head-later, stood}
 use Rattle.backtest_engine.specs.Lists.{due, slice_at, refused}
 use Rattle.backtest_engine.specs.Meaning.{Subscription}
-use Rattle.backtest_engine.specs.Turns.{IsEquity, without_one}
-use Rattle.backtest_engine.specs.Stands.{AreLists, HasKind, IsAt, AreAt, IsCalm, AreCalm, broken, is_faulted}
+use Rattle.backtest_engine.specs.Turns.{IsEquity}
+use Rattle.backtest_engine.specs.Stands.{AreLists, AreAt, AreCalm, broken, is_faulted}
 
 -- ---- a failed read stays the head
 
@@ -44,8 +43,7 @@ faulted-step : (t : ℤ) (items taken : List Item) (next : Item) (list : List It
     → filter (ends_at t) list ≡ [] → AtHead (t +ℤ pos 1) (items ++ taken) next × (given_of t Faulted taken ≡ filter (ends_at t) list)
 faulted-step t items taken next list s r calm =
     let (none, is) = faulted-next t taken next r in
-    let later : AtHead (t +ℤ pos 1) items Faulted = head-later t (t +ℤ pos 1) items Faulted (omega (arith, ints)) s tt in
-    (
+    let later : AtHead (t +ℤ pos 1) items Faulted = head-later t (t +ℤ pos 1) items Faulted (omega (arith, ints)) s tt in (
       subst (λ x. AtHead (t +ℤ pos 1) (items ++ taken) x) (sym is) (subst (λ xs. AtHead (t +ℤ pos 1) xs Faulted) (sym (append-nil items) ∙ ap (λ xs. items ++ xs) (sym none)) later),
       ap (given_of t Faulted) none ∙ sym calm,
     )
@@ -116,8 +114,7 @@ module _ (lists : FeedKey → List Item) (are : AreLists lists) (coarse : Bool) 
   whole-rest t feeds (b ∷ after) (a ∷ heads) taken [] at sliced past = absurd at
   whole-rest t feeds (b ∷ after) (a ∷ heads) taken (f ∷ active) (i, at) ((same, refilled), sliced) past =
       let number : b.feed.0 ≡ f.feed = ap (λ (x : FeedNo). x.0) same ∙ i.number in
-      let low : 0 < b.feed.0 = All-head (λ x. 0 < x.feed.0) b after past in
-      (
+      let low : 0 < b.feed.0 = All-head (λ x. 0 < x.feed.0) b after past in (
         elim i.kind [ inl h ↦ inr h | inr h ↦ (let zero = h.0 in absurd (omega (arith, low, number, zero))) ],
         whole-rest t feeds after heads taken active at sliced (All-tail (λ x. 0 < x.feed.0) b after past),
       )
@@ -152,8 +149,7 @@ module _ (lists : FeedKey → List Item) (are : AreLists lists) (coarse : Bool) 
   all-later t s feeds [] (f ∷ active) h at from = absurd at
   all-later t s feeds (a ∷ heads) [] h at from = absurd at
   all-later t s feeds (a ∷ heads) (f ∷ active) h (i, at) from =
-      let P : Arrival → Type 0 = λ b. EndsFrom s (end_of b.item) in
-      (
+      let P : Arrival → Type 0 = λ b. EndsFrom s (end_of b.item) in (
         record { number = i.number; items = i.items; there = i.there; head = head-later t s i.items a.item h i.head (All-head P a heads from); kind = i.kind },
         all-later t s feeds heads active h at (All-tail P a heads from),
       )
@@ -259,8 +255,7 @@ module _ (lists : FeedKey → List Item) (are : AreLists lists) (coarse : Bool) 
         let follows = follow f.feed (record { key = f.key; items = i.items }) i.there in
         let due_is : due t (lists f.key) ≡ Some bad
         = due-is t i.items h.item (lists f.key) i.head follows sound ∙ ap bad-of line in
-        let (rest, list_is) = stood (t +ℤ pos 1) i.items h.item (lists f.key) i.head follows sound in
-        (
+        let (rest, list_is) = stood (t +ℤ pos 1) i.items h.item (lists f.key) i.head follows sound in (
           record { key = f.key; items = i.items },
           sym (ap feeds number) ∙ i.there,
           ap (λ (o : Option BadLine). option_or (option_map (λ bad. (let p : FeedKey × BadLine = (f.key, bad) in p)) o) (refused lists t active)) due_is,

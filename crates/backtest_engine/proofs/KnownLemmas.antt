@@ -1,13 +1,13 @@
 -- What is known of a run from one moment to the next, whatever its pool and its desk turn out to have told.
-use Rattle.std.proofs.Common.{◌≡◌, ℕ, ◌+◌, ◌-◌, ◌<◌, ◌≤◌, Bool, true, false, pos, List, [], ◌∷◌, ◌++◌, Option, Some, None, refl, sym, ap, ◌∙◌, subst, arith, append_assoc, append-nil}
-use Rattle.std.specs.Prelude.{find, slice_get, Result, Ok, Err, OnOk}
+use Rattle.std.proofs.Common.{◌≡◌, ℕ, ◌+◌, ◌-◌, ◌<◌, ◌≤◌, Bool, false, pos, List, [], ◌++◌, Option, Some, None, refl, sym, ap, ◌∙◌, subst, arith, append_assoc, append-nil}
+use Rattle.std.specs.Prelude.{find, Result, Ok, Err, OnOk}
 use Rattle.std.specs.List.{All, Contains}
 use Rattle.lean_fixed.specs.declared.time.Moment.{Moment}
 use Rattle.lean_items.specs.declared.arrival.Arrival.{Arrival}
 use Rattle.lean_items.specs.declared.feed_key.FeedKey.{FeedKey}
 use Rattle.lean_items.specs.declared.item.Item.{Item}
 use Rattle.lean_items.specs.declared.item.Item.TheVariants as item
-use Rattle.lean_items.specs.Taken.{Start, Feeds, Taken, AllFollow}
+use Rattle.lean_items.specs.Taken.{Start, Feeds, AllFollow}
 use Rattle.lean_orders.specs.declared.desk.Command.{Command}
 use Rattle.lean_orders.specs.declared.desk.Reply.{Reply}
 use Rattle.clock_book.specs.Books.{Book}
@@ -24,7 +24,7 @@ use Rattle.backtest_engine.specs.declared.ending.Cut.TheVariants as cut
 use Rattle.backtest_engine.specs.declared.ending.Ending.{Ending}
 use Rattle.backtest_engine.specs.declared.ending.Ending.TheVariants.{Whole, Refused, Faulted}
 use Rattle.backtest_engine.specs.Meaning.{Meaning, State, moment_of}
-use Rattle.backtest_engine.specs.Reports.{minutes, minute}
+use Rattle.backtest_engine.specs.Reports.{minutes}
 use Rattle.backtest_engine.specs.Phased.{DeskStands, GoesOn}
 use Rattle.backtest_engine.specs.Stands.{AreLists, AreCalm, IsEarlier, Stock, HasFaulted}
 use Rattle.backtest_engine.specs.Moved.{Knows, Moved, IfReadFault}
@@ -174,8 +174,7 @@ module _ {Own : Type 0} (coarse : Bool) (first last : ℕ) (desk0 : DeskStands) 
       goes-more desk0 desk new_desk k.ds es k.more others k.goes goes,
       λ before feeds stock.
           (let o = k.known before feeds stock in
-          let (now, stand, earlier, fault, nothing, moved) = says before o.now o.stock in
-          (
+          let (now, stand, earlier, fault, nothing, moved) = says before o.now o.stock in (
             now,
             stand,
             (λ lists follow. o.earlier lists (earlier lists follow)),
@@ -225,8 +224,7 @@ module _ {Own : Type 0} (coarse : Bool) (first last : ℕ) (desk0 : DeskStands) 
         k.more,
         k.goes,
         λ before feeds stock.
-            (let o = k.known before feeds stock in
-            (
+            (let o = k.known before feeds stock in (
               o.now,
               o.stock.stand,
               o.earlier,
@@ -249,8 +247,7 @@ module _ {Own : Type 0} (coarse : Bool) (first last : ℕ) (desk0 : DeskStands) 
         k.more,
         k.goes,
         λ before feeds stock.
-            (let o = k.known before feeds stock in
-            (
+            (let o = k.known before feeds stock in (
               o.now,
               o.stock.stand,
               o.earlier,
@@ -265,8 +262,7 @@ module _ {Own : Type 0} (coarse : Bool) (first last : ℕ) (desk0 : DeskStands) 
         k.more,
         k.goes,
         λ before feeds stock.
-            (let o = k.known before feeds stock in
-            (
+            (let o = k.known before feeds stock in (
               o.now,
               o.stock.stand,
               o.earlier,

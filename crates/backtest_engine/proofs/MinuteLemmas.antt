@@ -1,5 +1,5 @@
 -- One moment of a run: what was taken, played and written.
-use Rattle.std.proofs.Common.{◌≡◌, ℕ, ◌+◌, ◌<◌, ◌≤◌, Bool, true, false, eqb, ℤ, pos, ◌+ℤ◌, List, [], ◌∷◌, ◌++◌, length, Option, Some, None, option_map, refl, sym, ap, ◌∙◌, subst, inl, inr, arith, append-nil}
+use Rattle.std.proofs.Common.{◌≡◌, ℕ, ◌+◌, ◌<◌, Bool, true, false, eqb, ℤ, pos, List, [], ◌∷◌, ◌++◌, length, Option, Some, None, option_map, refl, sym, ap, ◌∙◌, subst, inl, inr, arith, append-nil}
 use Rattle.std.specs.Prelude.{not, ◌&&◌, slice_get, Result, Ok, Err, OnOk}
 use Rattle.std.specs.List.{All, Contains, find}
 use Rattle.std.proofs.lemmas.Bool.{true≢false, false≢true, and_parts}
@@ -14,32 +14,25 @@ use Rattle.lean_items.specs.declared.feed_no.FeedNo.{FeedNo}
 use Rattle.lean_items.specs.declared.item.Item.{Item}
 use Rattle.lean_items.specs.declared.item.Item.TheVariants.{Bar, Coarse, Bad, Faulted, End}
 use Rattle.lean_items.specs.Taken.{Start, Feeds, Taken, AllFollow, more}
-use Rattle.lean_orders.specs.declared.desk.Command.{Command}
-use Rattle.lean_orders.specs.declared.desk.Reply.{Reply}
 use Rattle.clock_book.specs.Books.{Book}
 use Rattle.clock_book.specs.Handled.{after}
-use Rattle.clock_steps.specs.Runs.{Ran}
-use Rattle.order_desk.specs.Served.{IsRight}
 use Rattle.frontier_sync.specs.Heads.{stops, AreRising}
 use Rattle.frontier_sync.specs.Slices.{IsSliced, slice_of, taken_all, MovesOn}
 use Rattle.frontier_sync.specs.Stands.{IsTaken as IsTakenOf}
-use Rattle.frontier_sync.proofs.StandLemmas.{head-found, all-taken, all-front}
+use Rattle.frontier_sync.proofs.StandLemmas.{head-found, all-taken}
 use Rattle.report_pages.specs.Printed.{IsTaken, IsFront}
 use Rattle.report_pages.proofs.PrintedLemmas.{IsTaken-nothing}
-use Rattle.backtest_engine.specs.declared.changes.Changes.{Changes}
 use Rattle.backtest_engine.specs.declared.ending.Cut.{Cut}
 use Rattle.backtest_engine.specs.declared.ending.Cut.TheVariants as cut
-use Rattle.backtest_engine.specs.declared.limits.Limit.{Limit}
 use Rattle.backtest_engine.specs.declared.limits.Stop.{Stop}
 use Rattle.backtest_engine.specs.declared.limits.Stop.TheVariants as stop
 use Rattle.backtest_engine.specs.Lists.{slice_at}
 use Rattle.backtest_engine.specs.Meaning.{Meaning, State, Subscription, moment_of}
 use Rattle.backtest_engine.specs.Turns.{IsEquity, subscription, numbered, without_all}
-use Rattle.backtest_engine.specs.Phased.{DeskStands}
 use Rattle.backtest_engine.specs.Played.{Plays, IsPlayed}
-use Rattle.backtest_engine.specs.Stands.{AreLists, AreAt, AreCalm, MayStart, IsEarlier, Stock, broken, is_faulted, CoarseFailed, HasFaulted}
+use Rattle.backtest_engine.specs.Stands.{AreLists, AreAt, AreCalm, MayStart, Stock, broken, is_faulted, CoarseFailed, HasFaulted}
 use Rattle.backtest_engine.specs.Opened.{AreNumbered, without_heads, Opened}
-use Rattle.backtest_engine.specs.Moved.{moment_at, Knows, Goes, Moved, IfReadFault, Settled, Halted}
+use Rattle.backtest_engine.specs.Moved.{moment_at, Moved, IfReadFault, Settled, Halted}
 use Rattle.backtest_engine.proofs.HeadLemmas.{all-step, slice-whole}
 use Rattle.backtest_engine.proofs.FeedLemmas.{some-same, at-without_all, all-without}
 

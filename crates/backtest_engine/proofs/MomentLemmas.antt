@@ -1,5 +1,5 @@
 -- A moment of a strategy and a desk, one phase after another.
-use Rattle.std.proofs.Common.{◌≡◌, ℕ, ◌+◌, ◌≤◌, pos, List, [], ◌∷◌, ◌++◌, length, Option, Some, None, refl, sym, ap, ◌∙◌, subst, arith, append_assoc, append-nil}
+use Rattle.std.proofs.Common.{◌≡◌, ℕ, pos, List, [], ◌++◌, Some, None, refl, sym, ap, ◌∙◌, subst, append_assoc, append-nil}
 use Rattle.std.specs.Prelude.{Result, Ok, Err}
 use Rattle.lean_fixed.specs.declared.time.Moment.{Moment}
 use Rattle.lean_items.specs.declared.arrival.Arrival.{Arrival}
@@ -8,7 +8,7 @@ use Rattle.lean_items.specs.declared.feed_no.FeedNo.{FeedNo}
 use Rattle.lean_orders.specs.declared.desk.Command.{Command}
 use Rattle.lean_orders.specs.declared.desk.Reply.{Reply}
 use Rattle.clock_book.specs.Books.{Book}
-use Rattle.clock_book.specs.Handled.{after, replies}
+use Rattle.clock_book.specs.Handled.{after}
 use Rattle.clock_steps.specs.Runs.{Ran, behind, then_on}
 use Rattle.clock_steps.proofs.RunLemmas.{behind-twice}
 use Rattle.order_desk.specs.Served.{IsRight}
@@ -19,8 +19,8 @@ use Rattle.backtest_engine.specs.declared.limits.Stop.{Stop}
 use Rattle.backtest_engine.specs.declared.limits.Stop.TheVariants.{NoMemory, Limited}
 use Rattle.backtest_engine.specs.declared.phase.Phase.{Phase}
 use Rattle.backtest_engine.specs.declared.phase.Phase.TheVariants.{Prices, Rules, Close}
-use Rattle.backtest_engine.specs.Meaning.{Meaning, State, Asked, arrival_of, phase, close_of, behind_arrival, behind_prices, behind_rules, moment_of}
-use Rattle.backtest_engine.specs.Turns.{Turn, HasNext, next_phase, asked_of, ran_of, text_after, turn_after, IsFinished, Arrives, Closes, Plays as PlaysTurns}
+use Rattle.backtest_engine.specs.Meaning.{Meaning, State, arrival_of, phase, close_of, behind_arrival, behind_prices, behind_rules, moment_of}
+use Rattle.backtest_engine.specs.Turns.{Turn, HasNext, next_phase, turn_after, IsFinished, Arrives, Closes, Plays as PlaysTurns}
 use Rattle.backtest_engine.specs.Phased.{DeskStands, GoesOn, Faces, Phased}
 use Rattle.backtest_engine.specs.Played.{Plays, IsPlayed}
 use Rattle.backtest_engine.proofs.PhaseLemmas.{goes-none, goes-more}

@@ -1,24 +1,21 @@
 -- What a phase of a strategy and a desk does, one call after another.
-use Rattle.std.proofs.Common.{◌≡◌, ℕ, ◌+◌, ◌≤◌, Bool, true, false, List, [], ◌∷◌, ◌++◌, length, Option, Some, None, refl, sym, ap, ◌∙◌, subst, arith, append_assoc, append-nil}
-use Rattle.std.specs.Prelude.{Result, Ok, Err, IfSome}
-use Rattle.lean_fixed.specs.declared.memory.NoMemory.{NoMemory}
+use Rattle.std.proofs.Common.{◌≡◌, ℕ, List, [], ◌∷◌, ◌++◌, Option, Some, None, refl, sym, ap, ◌∙◌, subst, append_assoc, append-nil}
+use Rattle.std.specs.Prelude.{Ok, Err, IfSome}
 use Rattle.lean_orders.specs.declared.desk.Command.{Command}
 use Rattle.lean_orders.specs.declared.desk.Heard.{Heard}
 use Rattle.lean_orders.specs.declared.desk.Reply.{Reply}
-use Rattle.lean_orders.specs.declared.desk.Ticket.{Ticket}
 use Rattle.clock_book.specs.Books.{Book}
 use Rattle.clock_book.specs.Handled.{after, replies}
-use Rattle.order_desk.specs.Heard.{with_command, with_heard, Counts}
+use Rattle.order_desk.specs.Heard.{with_heard, Counts}
 use Rattle.order_desk.specs.Served.{Served, IsRight}
 use Rattle.order_desk.proofs.ReplyLemmas.{served-rest, right-after, served-is}
-use Rattle.backtest_engine.specs.declared.limits.Limit.{Limit}
 use Rattle.backtest_engine.specs.declared.limits.Stop.{Stop}
 use Rattle.backtest_engine.specs.declared.limits.Stop.TheVariants.{NoMemory as OutOfMemory, Limited}
 use Rattle.backtest_engine.specs.declared.phases.Unasked.{Unasked}
-use Rattle.backtest_engine.specs.declared.phases.Unasked.TheVariants.{Starved, Stopped}
-use Rattle.backtest_engine.specs.Meaning.{Meaning, State, Asked}
+use Rattle.backtest_engine.specs.declared.phases.Unasked.TheVariants.{Stopped}
+use Rattle.backtest_engine.specs.Meaning.{Meaning, Asked}
 use Rattle.backtest_engine.specs.Turns.{Turn, Plays, asked_of, text_after, IsFinished, Gives}
-use Rattle.backtest_engine.specs.Phased.{DeskStands, GoesOn, AskedAll, Faces, Phased}
+use Rattle.backtest_engine.specs.Phased.{DeskStands, GoesOn, AskedAll, Phased}
 
 -- ---- what was submitted and heard
 

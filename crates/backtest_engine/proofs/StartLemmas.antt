@@ -1,13 +1,13 @@
 -- The first heads of a run, and what is written behind its last moment.
-use Rattle.std.proofs.Common.{◌≡◌, ℕ, ◌+◌, ◌<◌, ◌≤◌, ◌⊎◌, Bool, true, false, ℤ, pos, ◌≤ℤ◌, ◌<ℤ◌, List, [], ◌∷◌, ◌++◌, length, Option, Some, None, refl, sym, ap, ◌∙◌, subst, inl, inr, arith}
+use Rattle.std.proofs.Common.{◌≡◌, ℕ, ◌<◌, ◌≤◌, Bool, true, false, ℤ, pos, ◌≤ℤ◌, ◌<ℤ◌, List, [], ◌∷◌, ◌++◌, length, Option, Some, refl, sym, ap, ◌∙◌, subst, inl, inr, arith}
 use Rattle.std.specs.Prelude.{◌&&◌, ◌==◌, int_lt, find, Result, Ok, Err, OnOk}
-use Rattle.std.specs.List.{All, AllZip, filter}
+use Rattle.std.specs.List.{All, AllZip}
 use Rattle.std.specs.Ordering.{int_eq}
 use Rattle.std.proofs.lemmas.Bool.{cases_Bool, true≢false, and_parts}
 use Rattle.std.proofs.lemmas.Bool.Decides.{Decides-int_eq}
 use Rattle.std.proofs.lemmas.Int.{ints}
 use Rattle.std.proofs.lemmas.Option.{none-some}
-use Rattle.std.proofs.lemmas.List.Elements.{All-nil, All-head, All-tail, All-weaker, All-cons}
+use Rattle.std.proofs.lemmas.List.Elements.{All-nil, All-head, All-tail, All-weaker}
 use Rattle.lean_fixed.specs.Calendar.{last_day}
 use Rattle.lean_items.specs.declared.arrival.Arrival.{Arrival}
 use Rattle.lean_items.specs.declared.bad.Bad.{Bad as BadLine}
@@ -15,9 +15,8 @@ use Rattle.lean_items.specs.declared.feed_key.FeedKey.{FeedKey}
 use Rattle.lean_items.specs.declared.item.Item.{Item}
 use Rattle.lean_items.specs.declared.item.Item.TheVariants.{Bar, Coarse, Bad, Faulted, End}
 use Rattle.lean_items.specs.Fits.{is_bar_in_range, is_row_in_range}
-use Rattle.lean_items.specs.Taken.{Start, Feeds, Taken, AllFollow, no_feeds}
+use Rattle.lean_items.specs.Taken.{Start, Feeds, AllFollow, no_feeds}
 use Rattle.clock_book.specs.Books.{Book}
-use Rattle.clock_book.specs.Handled.{after}
 use Rattle.order_desk.proofs.ReplyLemmas.{after-none}
 use Rattle.frontier_sync.specs.Heads.{stops, fits_first, AreRising}
 use Rattle.frontier_sync.specs.Slices.{ends_at}
@@ -25,7 +24,7 @@ use Rattle.frontier_sync.specs.Stands.{IsTaken as IsTakenOf}
 use Rattle.frontier_sync.proofs.PlaceLemmas.{kept-none}
 use Rattle.report_pages.specs.Printed.{IsTaken, IsFront}
 use Rattle.report_pages.specs.Lines.{data_line}
-use Rattle.report_pages.proofs.PrintedLemmas.{IsTaken-nothing, IsTaken-append, IsFront-more}
+use Rattle.report_pages.proofs.PrintedLemmas.{IsTaken-nothing, IsTaken-append}
 use Rattle.backtest_engine.specs.declared.ended.Ended.{Ended}
 use Rattle.backtest_engine.specs.declared.ended.Ended.TheVariants as ended
 use Rattle.backtest_engine.specs.declared.ending.Cut.{Cut}
@@ -34,10 +33,10 @@ use Rattle.backtest_engine.specs.declared.ending.Ending.{Ending}
 use Rattle.backtest_engine.specs.declared.ending.Ending.TheVariants as ending
 use Rattle.backtest_engine.specs.declared.limits.Limit.{Limit}
 use Rattle.backtest_engine.specs.Meaning.{Meaning, State, Subscription}
-use Rattle.backtest_engine.specs.Turns.{IsEquity, numbered}
-use Rattle.backtest_engine.specs.Reports.{Halt, limited, malformed, limit_line, last_text, report_of, whole, minutes}
+use Rattle.backtest_engine.specs.Turns.{numbered}
+use Rattle.backtest_engine.specs.Reports.{limit_line, last_text, report_of, whole}
 use Rattle.backtest_engine.specs.Phased.{DeskStands}
-use Rattle.backtest_engine.specs.Stands.{AreLists, IsAt, AreAt, AreCalm, MayStart, Stock, broken, is_faulted}
+use Rattle.backtest_engine.specs.Stands.{AreLists, AreAt, AreCalm, MayStart, Stock, broken, is_faulted}
 use Rattle.backtest_engine.specs.Opened.{Opened}
 use Rattle.backtest_engine.specs.Moved.{Knows}
 use Rattle.backtest_engine.specs.Walked.{IsCut, IfFault, IsEnd}
@@ -64,8 +63,7 @@ module _ (lists : FeedKey → List Item) (coarse : Bool) where
   past-whole t feeds (a ∷ heads) [] at past = absurd at
   past-whole t feeds (a ∷ heads) (f ∷ active) (i, at) past =
       let low : 0 < a.feed.0 = All-head (λ x. 0 < x.feed.0) a heads past in
-      let number : a.feed.0 ≡ f.feed = i.number in
-      (
+      let number : a.feed.0 ≡ f.feed = i.number in (
         elim i.kind [ inl h ↦ inr h | inr h ↦ (let zero = h.0 in absurd (omega (arith, low, number, zero))) ],
         past-whole t feeds heads active at (All-tail (λ x. 0 < x.feed.0) a heads past),
       )
@@ -118,8 +116,7 @@ module _ (lists : FeedKey → List Item) (coarse : Bool) where
   calm-start are first [] (f ∷ active) zip may = absurd zip
   calm-start are first (a ∷ heads) [] zip may = absurd zip
   calm-start are first (a ∷ heads) (f ∷ active) (kind, zip) may =
-      let opens = All-head (MayOpen coarse first) f active may in
-      (
+      let opens = All-head (MayOpen coarse first) f active may in (
         (λ is. elim kind [
           | inl sound ↦ absurd (sound is)
           | inr equity ↦
@@ -166,7 +163,6 @@ cut-none m lists first last s told = record {
 -- ---- what is written behind the last moment
 
 module _ {Own : Type 0} (m : Meaning Own) (lists : FeedKey → List Item) (first last : ℕ) (s : State Own) (coarse : Bool) (now : Feeds) where
-
   written-report : (told0 mid told : Option (List ℕ)) (text : List ℕ) (want is : Ended) → IsTaken told0 mid (whole m lists first last s).lines
       → last_text m (whole m lists first last s).stop (whole m lists first last s).state ≡ text
       → (IsReported m lists first last s told0 told → IsReport m lists first last s coarse now told0 told want)

@@ -1,43 +1,36 @@
 -- From one moment to the next at which anything can happen, whatever was taken and heard.
-use Rattle.std.proofs.Common.{◌≡◌, ℕ, zero, suc, ◌+◌, ◌-◌, ◌<◌, ◌≤◌, Bool, true, false, ℤ, pos, ◌+ℤ◌, ◌≤ℤ◌, List, [], ◌∷◌, ◌++◌, Option, Some, None, refl, sym, ap, ◌∙◌, subst, arith, append_assoc, append-nil}
-use Rattle.std.specs.Prelude.{find, slice_get, unwrap_or, Result, Ok, Err, OnOk}
-use Rattle.std.specs.List.{All, Contains}
+use Rattle.std.proofs.Common.{◌≡◌, ℕ, ◌+◌, ◌-◌, ◌<◌, ◌≤◌, Bool, false, ℤ, pos, List, [], ◌∷◌, ◌++◌, Option, Some, None, refl, sym, ap, ◌∙◌, subst, arith, append_assoc}
+use Rattle.std.specs.Prelude.{find, slice_get, unwrap_or, Ok, Err}
+use Rattle.std.specs.List.{All}
 use Rattle.std.proofs.lemmas.Int.{ints}
 use Rattle.std.proofs.lemmas.List.Elements.{All-nil, All-cons, All-weaker, All-contains}
-use Rattle.lean_fixed.specs.Calendar.{last_day}
 use Rattle.lean_items.specs.declared.arrival.Arrival.{Arrival}
 use Rattle.lean_items.specs.declared.bad.Bad.{Bad as BadLine}
 use Rattle.lean_items.specs.declared.feed_key.FeedKey.{FeedKey}
 use Rattle.lean_items.specs.declared.item.Item.{Item}
 use Rattle.lean_items.specs.declared.item.Item.TheVariants as item
 use Rattle.lean_items.specs.Given.{end_of}
-use Rattle.lean_items.specs.Taken.{Start, Feeds, Taken, AllFollow}
+use Rattle.lean_items.specs.Taken.{Feeds, Taken, AllFollow}
 use Rattle.lean_orders.specs.declared.desk.Command.{Command}
 use Rattle.lean_orders.specs.declared.desk.Reply.{Reply}
 use Rattle.clock_book.specs.Books.{Book}
 use Rattle.clock_book.specs.Handled.{after}
-use Rattle.clock_steps.specs.Runs.{Ran, rests, behind, run, IsStill, IsFrontOf}
+use Rattle.clock_steps.specs.Runs.{Ran, rests, behind, IsStill}
 use Rattle.clock_steps.proofs.RunLemmas.{run-next, run-end, run-stopped, run-front}
-use Rattle.order_desk.specs.Served.{IsRight}
-use Rattle.order_desk.proofs.ReplyLemmas.{right-before}
 use Rattle.frontier_sync.specs.Heads.{stops, EndsFrom}
-use Rattle.frontier_sync.specs.Stands.{IsTaken as IsTakenOf}
-use Rattle.frontier_sync.proofs.StandLemmas.{none-found, head-found}
+use Rattle.frontier_sync.proofs.StandLemmas.{none-found}
 use Rattle.report_pages.specs.Printed.{IsTaken, IsFront}
-use Rattle.report_pages.proofs.PrintedLemmas.{IsTaken-nothing, IsTaken-append, IsFront-more}
+use Rattle.report_pages.proofs.PrintedLemmas.{IsTaken-append, IsFront-more}
 use Rattle.backtest_engine.specs.declared.ending.Cut.{Cut}
 use Rattle.backtest_engine.specs.declared.ending.Cut.TheVariants as cut
-use Rattle.backtest_engine.specs.declared.ending.Ending.{Ending}
 use Rattle.backtest_engine.specs.declared.ending.Ending.TheVariants.{Whole, Refused, Faulted}
-use Rattle.backtest_engine.specs.declared.limits.Limit.{Limit}
 use Rattle.backtest_engine.specs.Lists.{slice_at, refused}
 use Rattle.backtest_engine.specs.Meaning.{Meaning, State, Subscription, moment_of}
 use Rattle.backtest_engine.specs.Reports.{Halt, halt, limited, malformed, halted, minute, minutes, whole}
-use Rattle.backtest_engine.specs.Phased.{DeskStands, GoesOn}
-use Rattle.backtest_engine.specs.Stands.{AreLists, AreAt, AreCalm, IsEarlier, Stock, HasFaulted, CoarseFailed, HasFile}
-use Rattle.backtest_engine.specs.Moved.{moment_at, Knows, Goes, Moved, IfReadFault}
-use Rattle.backtest_engine.specs.Walked.{IsEnding, IfFault, AllFrom, NoClose, IsCut, Faults, IsEnd}
-use Rattle.backtest_engine.proofs.PhaseLemmas.{goes-none, goes-more}
+use Rattle.backtest_engine.specs.Phased.{DeskStands}
+use Rattle.backtest_engine.specs.Stands.{AreLists, AreAt, AreCalm, HasFile}
+use Rattle.backtest_engine.specs.Moved.{moment_at, Knows, Goes, Moved}
+use Rattle.backtest_engine.specs.Walked.{AllFrom, NoClose, IsEnd}
 use Rattle.backtest_engine.proofs.HeadLemmas.{all-later, all-quiet, calm-heads, none-refused, first-refused}
 
 -- ---- what was written
@@ -165,8 +158,7 @@ module _ {Own : Type 0} (m : Meaning Own) (lists : FeedKey → List Item) (coars
           = ran-next at k.bytes k.state low k.ran ∙ ap (λ z. ran_so (k.bytes ++ r.lines) r.state (halt z (refused lists (pos at) (m.active r.state.own)))) stop in
           let more = last - at in
           let all : at + 1 - first + more ≡ last + 1 - first = omega (arith, low, high) in
-          let whole_is = sym (ap so all) ∙ run-stopped step (at + 1 - first) more first s0 r.state (k.bytes ++ r.lines) (limited limit) ran in
-          (
+          let whole_is = sym (ap so all) ∙ run-stopped step (at + 1 - first) more first s0 r.state (k.bytes ++ r.lines) (limited limit) ran in (
             ap (λ (r : Ran (State Own) ℕ Halt). r.stop) whole_is,
             subst (λ xs. IsTaken told0 told1 xs) (sym (ap (λ (r : Ran (State Own) ℕ Halt). r.lines) whole_is)) (IsTaken-append told0 told told1 k.bytes r.lines k.wrote wrote),
           )
@@ -229,8 +221,7 @@ module _ {Own : Type 0} (m : Meaning Own) (lists : FeedKey → List Item) (coars
         let to : first + n + gap ≡ last + 1 = omega (arith, low, high) in
         let quiet = still-until (last + 1) calm ends (closes c.knows.core_is) in
         let still : IsStill step c.state (first + n) (first + n + gap) = λ u lo hi. quiet u (omega (arith, lo, start)) (omega (arith, hi, to)) in
-        let ran : whole m lists first last s0 ≡ ran_so c.bytes c.state None = ap so (sym count) ∙ run-end step n gap first s0 c.state c.bytes (calm-ran calm) still in
-        (
+        let ran : whole m lists first last s0 ≡ ran_so c.bytes c.state None = ap so (sym count) ∙ run-end step n gap first s0 c.state c.bytes (calm-ran calm) still in (
           ap (λ (r : Ran (State Own) ℕ Halt). r.stop) ran,
           subst (λ (r : Ran (State Own) ℕ Halt). stands r.state []) (sym ran) c.knows.core_is,
           ap (λ (r : Ran (State Own) ℕ Halt). r.state.book) ran ∙ c.knows.book,
@@ -249,8 +240,7 @@ module _ {Own : Type 0} (m : Meaning Own) (lists : FeedKey → List Item) (coars
         = c.ran ∙ ap (λ z. ran_so c.bytes c.state (halt None z)) due ∙ ap (λ k. ran_so c.bytes c.state (Some (malformed k bad))) same in
         let more = last - at in
         let all : at + 1 - first + more ≡ last + 1 - first = omega (arith, low, high) in
-        let whole_is = sym (ap so all) ∙ run-stopped step (at + 1 - first) more first s0 c.state c.bytes (malformed key bad) ran in
-        (
+        let whole_is = sym (ap so all) ∙ run-stopped step (at + 1 - first) more first s0 c.state c.bytes (malformed key bad) ran in (
           ap (λ (r : Ran (State Own) ℕ Halt). r.stop) whole_is,
           subst (λ (r : Ran (State Own) ℕ Halt). IsTaken told0 told r.lines) (sym whole_is) c.wrote,
           All-contains HasFile (lists taken.key) (item.Bad bad) (are.files taken.key) has,

@@ -1,5 +1,5 @@
 -- What the lists of some feeds have by a moment.
-use Rattle.std.specs.Prelude.{ℕ, ℤ, int_le, if◌then◌else◌, List, ◌++◌, ◌∷◌, [], map, Option, Some, None, option_map}
+use Rattle.std.specs.Prelude.{ℤ, int_le, if◌then◌else◌, List, ◌++◌, ◌∷◌, [], map, Option, Some, None, option_map}
 use Rattle.std.specs.List.{filter}
 use Rattle.std.specs.Option.{option_or}
 use Rattle.lean_items.specs.declared.arrival.Arrival.{Arrival}

@@ -1,12 +1,12 @@
 -- What a strategy means, and what one of its moments does: no desk, no pool and no head of a feed occurs here.
-use Rattle.std.specs.Prelude.{ℕ, Bool, List, ◌++◌, ◌∷◌, [], Option, Some, None}
+use Rattle.std.specs.Prelude.{ℕ, Bool, List, Option, None}
 use Rattle.lean_orders.specs.declared.desk.Command.{Command}
 use Rattle.lean_orders.specs.declared.desk.Reply.{Reply}
 use Rattle.lean_items.specs.declared.arrival.Arrival.{Arrival}
 use Rattle.lean_items.specs.declared.feed_key.FeedKey.{FeedKey}
 use Rattle.clock_book.specs.Books.{Book}
 use Rattle.clock_book.specs.Handled.{after, replies}
-use Rattle.clock_steps.specs.Runs.{Ran, rests, before}
+use Rattle.clock_steps.specs.Runs.{Ran, before}
 use Rattle.backtest_engine.specs.declared.limits.Limit.{Limit}
 use Rattle.backtest_engine.specs.declared.phase.Phase.{Phase}
 use Rattle.backtest_engine.specs.declared.phase.Phase.TheVariants.{Prices, Rules, Close}

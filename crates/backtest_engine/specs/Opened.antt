@@ -1,5 +1,5 @@
 -- Feeds that are added to a pool and removed from it, with their first heads.
-use Rattle.std.specs.Prelude.{◌≡◌, ℕ, ℤ, ◌<◌, Bool, List, ◌++◌, fold}
+use Rattle.std.specs.Prelude.{ℕ, ℤ, ◌<◌, Bool, List, ◌++◌, fold}
 use Rattle.std.specs.List.{All}
 use Rattle.lean_items.specs.declared.arrival.Arrival.{Arrival}
 use Rattle.lean_items.specs.declared.feed_key.FeedKey.{FeedKey}

@@ -1,5 +1,5 @@
 -- What a phase of a strategy and a desk does, whatever the desk replies.
-use Rattle.std.specs.Prelude.{◌≡◌, ℕ, Bool, true, false, List, ◌++◌, [], Option, Some, None, Result, Ok, Err}
+use Rattle.std.specs.Prelude.{◌≡◌, ℕ, Bool, true, false, List, ◌++◌, [], Some, None, Result, Ok, Err}
 use Rattle.lean_orders.specs.declared.desk.Command.{Command}
 use Rattle.lean_orders.specs.declared.desk.Reply.{Reply}
 use Rattle.clock_book.specs.Books.{Book}
@@ -8,7 +8,7 @@ use Rattle.backtest_engine.specs.declared.limits.Stop.{Stop}
 use Rattle.backtest_engine.specs.declared.limits.Stop.TheVariants.{NoMemory, Limited}
 use Rattle.backtest_engine.specs.declared.phases.Unasked.{Unasked}
 use Rattle.backtest_engine.specs.declared.phases.Unasked.TheVariants.{Starved, Stopped}
-use Rattle.backtest_engine.specs.Meaning.{Meaning, State}
+use Rattle.backtest_engine.specs.Meaning.{Meaning}
 use Rattle.backtest_engine.specs.Turns.{Turn, Plays, asked_of, text_after, IsFinished}
 
 -- these commands were submitted to a desk, and these replies were heard of it, whatever it stood for

@@ -1,5 +1,5 @@
 -- What a moment of a strategy and a desk does, whatever the desk replies.
-use Rattle.std.specs.Prelude.{◌≡◌, ℕ, ◌+◌, pos, List, ◌++◌, length, Option, Some, None, Result, Ok, Err}
+use Rattle.std.specs.Prelude.{◌≡◌, ℕ, ◌+◌, pos, List, ◌++◌, length, Some, None, Result, Ok, Err}
 use Rattle.std.specs.List.{All}
 use Rattle.clock_book.specs.Books.{Book}
 use Rattle.clock_steps.specs.Runs.{Ran}

@@ -1,6 +1,5 @@
 -- The report of a backtest: it walks every minute from the first moment to the last one, both included.
 use Rattle.std.specs.Prelude.{ℕ, pos, List, ◌++◌, Option, Some, None, codes}
-use Rattle.lean_items.specs.declared.arrival.Arrival.{Arrival}
 use Rattle.lean_items.specs.declared.bad.Bad.{Bad}
 use Rattle.lean_items.specs.declared.feed_key.FeedKey.{FeedKey}
 use Rattle.lean_items.specs.declared.item.Item.{Item}

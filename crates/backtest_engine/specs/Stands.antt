@@ -1,5 +1,5 @@
 -- Where the heads of the active feeds stand in the lists of their keys.
-use Rattle.std.specs.Prelude.{◌≡◌, ◌⊎◌, ℕ, ◌+◌, ◌≤◌, ℤ, pos, ◌+ℤ◌, ◌≤ℤ◌, Bool, true, false, ◌&&◌, ◌==◌, List, [], Option, Some, None, slice_get}
+use Rattle.std.specs.Prelude.{◌≡◌, ◌⊎◌, ℕ, ◌≤◌, ℤ, pos, ◌+ℤ◌, ◌≤ℤ◌, Bool, true, false, ◌&&◌, ◌==◌, List, [], Option, Some, None, slice_get}
 use Rattle.std.specs.List.{All, AllZip, Contains, filter}
 use Rattle.lean_fixed.specs.Calendar.{last_day}
 use Rattle.lean_items.specs.declared.arrival.Arrival.{Arrival}

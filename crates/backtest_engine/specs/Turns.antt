@@ -1,5 +1,5 @@
 -- A moment under way: its phases as turns of a strategy, and what each call of the strategy says of them.
-use Rattle.std.specs.Prelude.{◌≡◌, ℕ, ◌+◌, ◌<◌, ◌≤◌, ◌==◌, false, not, ℤ, pos, ◌<ℤ◌, ◌≤ℤ◌, Bool, List, ◌++◌, ◌∷◌, [], length, fold, Option, Some, None, Result, Ok, Err}
+use Rattle.std.specs.Prelude.{◌≡◌, ℕ, ◌+◌, ◌<◌, ◌≤◌, ◌==◌, false, not, pos, Bool, List, ◌++◌, ◌∷◌, [], length, fold, Option, Some, None, Result, Ok, Err}
 use Rattle.std.specs.List.{All, filter}
 use Rattle.lean_fixed.specs.declared.time.Moment.{Moment}
 use Rattle.lean_orders.specs.declared.desk.Command.{Command}

@@ -1,5 +1,5 @@
 -- How the moments of a run end.
-use Rattle.std.specs.Prelude.{◌≡◌, ◌⊎◌, ℕ, ◌+◌, ◌-◌, ◌<◌, ◌≤◌, pos, Bool, false, List, [], length, Option, Some, None, Result, Ok, Err, find, slice_get}
+use Rattle.std.specs.Prelude.{◌≡◌, ℕ, ◌+◌, ◌-◌, ◌<◌, ◌≤◌, pos, Bool, false, List, [], Option, Some, None, Result, Ok, Err, find, slice_get}
 use Rattle.std.specs.List.{All}
 use Rattle.lean_fixed.specs.Calendar.{last_day}
 use Rattle.lean_items.specs.declared.arrival.Arrival.{Arrival}

@@ -74,7 +74,9 @@ pub fn run<C: Strategy, P: Pool, D: Desk, S: Sink>(
     ensures stays { Stays P.files P.lists P.faults P.place pool.old pool.new }
 {
     let mut desk = desk;
-    let walked = start(alloc, core, &mut desk, pool, opening, coarse, first, last, out);
+    let walked = start(
+        alloc, core, &mut desk, pool, opening, coarse, first, last, out,
+    );
     let _ = pool.finish();
     let book = desk.finish();
     end(alloc, core, walked, &book, out)

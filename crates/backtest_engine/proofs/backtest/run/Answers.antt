@@ -1,5 +1,5 @@
 -- What was taken follows the lists and what was heard is the book's, now that the pool and the desk are finished.
-use Rattle.std.proofs.Common.{◌≡◌, [], sym, ◌∙◌}
+use Rattle.std.proofs.Common.{[], ◌∙◌}
 use Rattle.order_desk.proofs.ReplyLemmas.{right-now}
 use Rattle.clock_book.specs.Handled.{after}
 use Rattle.order_book.specs.Stands.{StandsFor}

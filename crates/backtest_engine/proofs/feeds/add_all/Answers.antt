@@ -1,8 +1,8 @@
-use Rattle.std.proofs.Common.{◌≡◌, ◌+◌, ◌<◌, ◌++◌, ◌∷◌, [], length, take, drop, refl, sym, ◌∙◌, ap, arith, subst}
+use Rattle.std.proofs.Common.{◌≡◌, ◌+◌, ◌<◌, ◌++◌, ◌∷◌, [], length, take, drop, sym, ◌∙◌, ap, arith, subst}
 use Rattle.std.proofs.lemmas.List.{take_more, length-take-le, length-drop}
 use Rattle.frontier_sync.proofs.TakenLemmas.{stays-more}
 use Rattle.backtest_engine.specs.Opened.{Opened}
-use Rattle.backtest_engine.proofs.FeedLemmas.{drop-next, opened-none, opened-more}
+use Rattle.backtest_engine.proofs.FeedLemmas.{drop-next, opened-more}
 use Rattle.backtest_engine.proofs.feeds.add_all.Goals as goal
 
 pub returns-in-Err-clause-stands : goal.returns-in-Err-clause-stands
@@ -40,8 +40,7 @@ keys-preserved g c =
       orders = omega (arith, did.orders, inv.orders);
       known = λ before feeds stock.
           (let (later, earlier, o) = inv.known before feeds stock in
-          let (now, stand, before_now, made) = did.stands before later o.stock in
-          (
+          let (now, stand, before_now, made) = did.stands before later o.stock in (
             now,
             (λ lists follow. earlier lists (before_now lists follow)),
             subst (λ ks. Opened (P.stands new) before (P.added first) (P.added new) feeds now c.args.heads.now c.add_one.new.heads c.add_one.new.keys.items ks) (sym taken)

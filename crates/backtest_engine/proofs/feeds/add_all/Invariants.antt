@@ -1,5 +1,5 @@
 -- The feeds of the first keys were added.
-use Rattle.std.proofs.Common.{◌≡◌, ◌+◌, ◌≤◌, [], List, length, take, drop}
+use Rattle.std.proofs.Common.{◌≡◌, ◌+◌, ◌≤◌, length, take, drop}
 use Rattle.lean_items.specs.Taken.{Start, Feeds}
 use Rattle.frontier_sync.specs.Heads.{AreOpen}
 use Rattle.frontier_sync.specs.Stays.{Stays}

@@ -1,7 +1,4 @@
-use Rattle.std.proofs.Common.{◌≡◌, ◌+◌, ◌++◌, ◌∷◌, [], refl, sym, ◌∙◌, ap, arith, Err, subst}
-use Rattle.frontier_sync.specs.Slices.{taken_one}
-use Rattle.lean_items.specs.Taken.{added_to}
-use Rattle.lean_items.specs.declared.feed_no.FeedNo.{FeedNo}
+use Rattle.std.proofs.Common.{◌≡◌, ◌+◌, ◌++◌, ◌∷◌, [], ◌∙◌, arith}
 use Rattle.report_pages.proofs.PrintedLemmas.{on_ok}
 use Rattle.backtest_engine.proofs.FeedLemmas.{opened, opened-one, extends-opened, extends-earlier}
 use Rattle.backtest_engine.proofs.feeds.add_one.Goals as goal
@@ -17,10 +14,12 @@ returns-in-Ok-keep-clause-stands g c before feeds stock =
     let (passed, none, takes) = c.first_head-item.ensures.took in
     let one = opened-one (P.stands c.args.pool.now) (P.stands c.add.new.self) (P.stands c.first_head-item.new.pool) before (P.added c.args.pool.now) (P.added c.first_head-item.new.pool)
     c.args.heads.now c.keep.new.heads c.args.keys.now.items c.keep.new.keys.items feeds key feed passed item stock number more c.requires.kept
-    c.in-Ok-keep.ensures.heads c.in-Ok-keep.ensures.keys (λ b f h. c.in-Ok.ensures.stands b f h) takes none c.first_head-item.ensures.fits in
-    (opened feeds key feed (passed ++ item ∷ []), one.stock.stand,
+    c.in-Ok-keep.ensures.heads c.in-Ok-keep.ensures.keys (λ b f h. c.in-Ok.ensures.stands b f h) takes none c.first_head-item.ensures.fits in (
+      opened feeds key feed (passed ++ item ∷ []),
+      one.stock.stand,
       extends-earlier feeds (opened feeds key feed (passed ++ item ∷ [])) (extends-opened feeds key feed (passed ++ item ∷ []) (stock.beyond feed.0 (omega (arith, number)))),
-      on_ok c.named.result _ one)
+      on_ok c.named.result _ one,
+    )
 
 pub returns-in-Err-keep-clause-stands : goal.returns-in-Err-keep-clause-stands
 returns-in-Err-keep-clause-stands g c before feeds stock =
@@ -28,6 +27,9 @@ returns-in-Err-keep-clause-stands g c before feeds stock =
     let feed = c.in-Ok.feed in
     let number : feed.0 ≡ g.P.Pool.added c.args.pool.now = c.in-Ok.ensures.number in
     let (passed, none, takes) = c.first_head-item.ensures.took in
-    let items = passed ++ c.first_head-item.result ∷ [] in
-    (opened feeds key feed items, takes before _ (c.in-Ok.ensures.stands before feeds stock.stand),
-      extends-earlier feeds (opened feeds key feed items) (extends-opened feeds key feed items (stock.beyond feed.0 (omega (arith, number)))), tt)
+    let items = passed ++ c.first_head-item.result ∷ [] in (
+      opened feeds key feed items,
+      takes before _ (c.in-Ok.ensures.stands before feeds stock.stand),
+      extends-earlier feeds (opened feeds key feed items) (extends-opened feeds key feed items (stock.beyond feed.0 (omega (arith, number)))),
+      tt,
+    )

@@ -1,4 +1,4 @@
-use Rattle.std.proofs.Common.{get_or, ◌≡◌, ◌+◌, ◌<◌, ◌∷◌, length, drop, refl, sym, ◌∙◌, ap, subst}
+use Rattle.std.proofs.Common.{get_or, ◌+◌, ◌<◌, length, drop, sym, ◌∙◌, ap, subst}
 use Rattle.lean_items.specs.declared.feed_no.FeedNo.{FeedNo}
 use Rattle.frontier_sync.specs.Heads.{AreOpen}
 use Rattle.frontier_sync.proofs.TakenLemmas.{stays-more}

@@ -1,9 +1,4 @@
-use Rattle.std.proofs.Common.{List, refl}
-use Rattle.lean_orders.specs.declared.desk.Command.{Command}
-use Rattle.lean_orders.specs.declared.desk.Reply.{Reply}
 use Rattle.backtest_engine.specs.declared.phase.Phase.TheVariants.{Prices, Rules, Close}
-use Rattle.backtest_engine.specs.Meaning.{Meaning}
-use Rattle.backtest_engine.specs.Turns.{Plays, Turn}
 use Rattle.backtest_engine.proofs.MomentLemmas.{through-first, through-next, ends-first, ends-phase, ends-unclosed, ends-closed}
 use Rattle.backtest_engine.proofs.moments.play.Goals as goal
 

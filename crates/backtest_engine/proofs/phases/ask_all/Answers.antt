@@ -1,4 +1,4 @@
-use Rattle.std.proofs.Common.{◌≡◌, ◌+◌, ◌≤◌, arith, List, [], ◌∷◌, ◌++◌}
+use Rattle.std.proofs.Common.{◌+◌, ◌≤◌, arith, [], ◌∷◌, ◌++◌}
 use Rattle.clock_book.specs.Fitting.{submits}
 use Rattle.backtest_engine.proofs.PhaseLemmas.{goes-submitted, goes-same, gives-some, of-some}
 use Rattle.backtest_engine.proofs.phases.ask_all.Goals as goal

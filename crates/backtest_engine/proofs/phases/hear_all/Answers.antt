@@ -1,4 +1,4 @@
-use Rattle.std.proofs.Common.{◌≡◌, ◌≤◌, arith, List, [], ◌∷◌, ◌++◌, sym, ◌∙◌, ap, subst, append_assoc}
+use Rattle.std.proofs.Common.{arith, [], ◌∷◌, ◌++◌, ◌∙◌, subst, append_assoc}
 use Rattle.backtest_engine.proofs.PhaseLemmas.{goes-heard, heard-some}
 use Rattle.backtest_engine.proofs.phases.hear_all.Goals as goal
 

@@ -1,5 +1,5 @@
 -- The first replies were heard.
-use Rattle.std.proofs.Common.{◌≡◌, ◌+◌, ◌≤◌, false, List, [], ◌++◌}
+use Rattle.std.proofs.Common.{◌≡◌, ◌≤◌, false, List, [], ◌++◌}
 use Rattle.lean_orders.specs.declared.desk.Command.{Command as AskedOne}
 use Rattle.lean_orders.specs.declared.desk.Reply.{Reply as Answer}
 use Rattle.backtest_engine.specs.Meaning.{Meaning}

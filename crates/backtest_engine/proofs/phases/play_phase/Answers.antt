@@ -1,6 +1,4 @@
-use Rattle.std.proofs.Common.{◌≡◌, ◌≤◌, arith, List, [], ◌∷◌, ◌++◌, None, refl, sym, ◌∙◌, ap, subst, append_assoc, append-nil}
-use Rattle.lean_orders.specs.declared.desk.Reply.{Reply}
-use Rattle.backtest_engine.specs.Phased.{GoesOn}
+use Rattle.std.proofs.Common.{[], ◌++◌, None, refl, ap}
 use Rattle.backtest_engine.specs.Meaning.{Asked}
 use Rattle.backtest_engine.proofs.PhaseLemmas.{goes-both, serves, phase-finished, phase-stopped}
 use Rattle.backtest_engine.proofs.phases.play_phase.Goals as goal
@@ -22,8 +20,7 @@ returns-in-Ok-hear_all-clause-played g c =
           let counts0 = g.met.D.Desk.counts desk0 b cs rs f.stands in
           let counts2 = g.met.D.Desk.counts desk2 b (cs ++ ds) (rs ++ more) (goes b cs rs f.stands) in
           let served0 = serves (g.D.Desk.submitted desk0) (g.D.Desk.orders desk0) (g.D.Desk.answered desk0) b cs rs counts0 c.requires.done in
-          let served2 = serves (g.D.Desk.submitted desk2) (g.D.Desk.orders desk2) (g.D.Desk.answered desk2) b (cs ++ ds) (rs ++ more) counts2 c.in-Ok-hear_all.ensures.done in
-          (
+          let served2 = serves (g.D.Desk.submitted desk2) (g.D.Desk.orders desk2) (g.D.Desk.answered desk2) b (cs ++ ds) (rs ++ more) counts2 c.in-Ok-hear_all.ensures.done in (
             hears m turn ds [] plays,
             phase-finished m (g.C.Strategy.plays c.hear_all.new.core m) turn b cs ds rs more (record { commands = ds; stop = None }) f.book served0 served2 right asked refl,
             ap (λ (a : Asked). a.stop) asked,

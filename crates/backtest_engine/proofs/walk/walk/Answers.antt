@@ -1,4 +1,4 @@
-use Rattle.std.proofs.Common.{◌≡◌, ◌+◌, ◌<◌, ◌≤◌, true, Some, None, length, refl, sym, ◌∙◌, ap, arith, subst}
+use Rattle.std.proofs.Common.{◌≡◌, ◌<◌, Some, None, length, sym, ◌∙◌, ap, arith, subst}
 use Rattle.std.specs.Prelude.{find}
 use Rattle.lean_items.specs.declared.arrival.Arrival.{Arrival}
 use Rattle.frontier_sync.specs.Heads.{stops}

@@ -1,5 +1,5 @@
 -- How far a run has come.
-use Rattle.std.proofs.Common.{◌≡◌, ◌+◌, ◌-◌, ◌*◌, ◌^◌, ◌≤◌, false, length}
+use Rattle.std.proofs.Common.{◌≡◌, ◌+◌, ◌-◌, ◌^◌, ◌≤◌, false, length}
 use Rattle.clock_book.specs.Fitting.{most_orders}
 use Rattle.frontier_sync.specs.Heads.{AreOpen}
 use Rattle.frontier_sync.specs.Stays.{Stays}
