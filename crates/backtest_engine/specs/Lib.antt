@@ -1,0 +1,12 @@
+pub mod Meaning
+pub mod Lists
+pub mod Reports
+pub mod Turns
+pub mod Phased
+pub mod Played
+pub mod Stands
+pub mod Opened
+pub mod Moved
+pub mod Walked
+pub mod Reported
+pub mod Last
