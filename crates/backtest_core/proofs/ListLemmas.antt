@@ -75,7 +75,7 @@ pub heard-next : (t : ℕ) (slice : List Arrival) (old : List Watched) (from to 
     → (AreInOrder slice → bar ≡ first_bar (bars_in (drop from slice) (get_or ws n d).feed.0))
     → ((later : ℕ) → (get_or ws n d).feed.0 ≤ later → bars_in (drop from slice) later ≡ bars_in (drop to slice) later)
     → ((f : Followed) → Watches (get_or ws n d) f → IsQuiet t (history f) → FitsOnce t f (bars_in slice (feed_of f)) → bar ≡ first_bar (bars_in slice (feed_of f))
-      → WatchesAt t w (with_bars slice f))
+    → WatchesAt t w (with_bars slice f))
     → HasHeard t slice from n ws fs → HasHeard t slice to (suc n) (set ws n w) fs
 heard-next t slice old from to n ws fs w d bar within well found passes arrives heard =
     let meets = halfway-meets Watches (λ w f. WatchesAt t w (with_bars slice f)) n ws fs d within heard.half in

@@ -48,7 +48,8 @@ others_of core = others_in core.commands
 abbrev pub requests_of : Core → ℕ
 requests_of core = requests_in core.commands
 
--- no more commands may come than before
+-- the moment stays, and no more commands may come than before
 pub record GivesNoMore (old new : Core) : Type 0 where
+  pub at : new.commands.at ≡ old.commands.at
   pub others : others_of new ≤ others_of old
   pub requests : requests_of new ≤ requests_of old

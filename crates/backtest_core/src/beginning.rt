@@ -6,9 +6,9 @@ ghost use Rattle.backtest_core.specs.Naming.{IsPlaceOf};
 
 use crate::commands::Commands;
 use crate::joining::wait_listed;
-use crate::standing::Core;
 use crate::mirror::Mirror;
 use crate::places::WindowTable;
+use crate::standing::Core;
 use crate::viewing::blank_views;
 use crate::waiting::Waiting;
 use exchange_hours::Hours;
@@ -34,7 +34,11 @@ impl Core {
             StandsFor core (begun (record { plan = plan; hours = arc_value hours })) []) }
     {
         let table = WindowTable::new(alloc, plan.rules.0.as_slice())?;
-        let waiting = wait_listed(alloc, plan.securities.0.as_slice(), plan.window.first_moment())?;
+        let waiting = wait_listed(
+            alloc,
+            plan.securities.0.as_slice(),
+            plan.window.first_moment(),
+        )?;
         let mirror = Mirror::new(alloc, plan.cash);
         Ok(Core {
             alloc,

@@ -2,11 +2,11 @@
 #![tactic(auto)]
 
 mod arriving;
+mod asking;
 mod beginning;
 mod closing;
 mod commanding;
 mod commands;
-mod asking;
 mod facts;
 mod following;
 mod giving;
@@ -19,18 +19,18 @@ mod live;
 mod mirror;
 mod orders;
 mod phase;
+mod places;
 mod selecting;
 mod standing;
 mod stop;
-mod telling;
-mod waiting;
-mod places;
 mod table;
+mod telling;
 mod viewing;
+mod waiting;
 mod watched;
 mod watching;
 mod watchlist;
 
-pub use standing::Core;
 pub use phase::Phase;
+pub use standing::Core;
 pub use stop::{Changes, Stop};

@@ -37,7 +37,12 @@ fn append_change(at: Moment, word: &[u8], symbol: Symbol, out: &mut Vec<u8>) -> 
 
 /// Appends the line of a session that closes.
 #[tactic(auto, unfolding(clock_run::specs::Lines::line_bytes))]
-pub(crate) fn append_closed(at: Moment, cash: Money, equity: Money, out: &mut Vec<u8>) -> Result<(), NoMemory>
+pub(crate) fn append_closed(
+    at: Moment,
+    cash: Money,
+    equity: Money,
+    out: &mut Vec<u8>,
+) -> Result<(), NoMemory>
     requires { IsPrintedMoment at.0 }
     ensures { OnOk result (out.new.items
         ≡ out.old.items ++ line_bytes (closed (unsigned_abs at.0) cash.0 equity.0)) }

@@ -31,7 +31,11 @@ pub(crate) fn selected_in(
     }
 }
 
-fn select_rows(alloc: Global, rule: &UniverseRule, slice: &[Arrival]) -> Result<Option<Vec<Symbol>>, NoMemory>
+fn select_rows(
+    alloc: Global,
+    rule: &UniverseRule,
+    slice: &[Arrival],
+) -> Result<Option<Vec<Symbol>>, NoMemory>
     ensures chosen { IfOk result (λ symbols. option_map (λ v. v.items) symbols ≡ choice_by rule.now (rows_in slice.now)) }
     ensures distinct { IfOk result (λ symbols. IfSome symbols (λ v. IsDistinct is_same v.items)) }
 {
@@ -69,7 +73,11 @@ fn add_row(item: &Item, rows: &mut Vec<CoarseRow>) -> Result<(), NoMemory>
 }
 
 /// Appends the symbols among some that are not active.
-pub(crate) fn add_new(watched: &[Watched], symbols: &[Symbol], out: &mut Vec<Symbol>) -> Result<(), NoMemory>
+pub(crate) fn add_new(
+    watched: &[Watched],
+    symbols: &[Symbol],
+    out: &mut Vec<Symbol>,
+) -> Result<(), NoMemory>
     ensures { OnOk result (out.new.items ≡ out.old.items ++ new_among watched.now symbols.now) }
 {
     for symbol in symbols {

@@ -12,10 +12,12 @@ loop-symbol-preserved c =
     let before = subscriptions_in c.loop-symbol.waiting.items in
     let here : drop i all ≡ item ∷ drop (suc i) all =
     drop-cons all i item c.loop-symbol-test.true ∙ ap (λ s. s ∷ drop (suc i) all) (sym c.symbol-item.is) in
-    let step : suc i ≡ i + 1 = omega arith in
-    (omega (arith, c.loop-symbol.invariant.0, c.in_ok-add_joining.ensures.len), λ t at.
-    c.loop-symbol.invariant.1 t at
-    ∙ (ap (λ l. before ++ map (joining c.args.universe.now t 0) l) here
-    ∙ (sym (append_assoc before (joining c.args.universe.now t 0 item ∷ []) (map (joining c.args.universe.now t 0) (drop (suc i) all)))
-    ∙ (ap (λ l. l ++ map (joining c.args.universe.now t 0) (drop (suc i) all)) (sym (c.in_ok-add_joining.ensures.waits t at))
-    ∙ ap (λ n. subscriptions_in c.add_joining.new.out.items ++ map (joining c.args.universe.now t 0) (drop n all)) step))))
+    let step : suc i ≡ i + 1 = omega arith in (
+      omega (arith, c.loop-symbol.invariant.0, c.in_ok-add_joining.ensures.len),
+      λ t at.
+          c.loop-symbol.invariant.1 t at
+          ∙ (ap (λ l. before ++ map (joining c.args.universe.now t 0) l) here
+          ∙ (sym (append_assoc before (joining c.args.universe.now t 0 item ∷ []) (map (joining c.args.universe.now t 0) (drop (suc i) all)))
+          ∙ (ap (λ l. l ++ map (joining c.args.universe.now t 0) (drop (suc i) all)) (sym (c.in_ok-add_joining.ensures.waits t at))
+          ∙ ap (λ n. subscriptions_in c.add_joining.new.out.items ++ map (joining c.args.universe.now t 0) (drop n all)) step))),
+    )

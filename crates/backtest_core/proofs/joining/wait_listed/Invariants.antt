@@ -8,4 +8,4 @@ abbrev pub invariant-loop-security : goal.invariant-loop-security
 invariant-loop-security l =
     (vec_len l.waiting ≡ l.security-index)
     × ((t : ℕ) → l.start ≡ moment t
-      → map (listed t 0) l.securities ≡ subscriptions_in l.waiting.items ++ map (listed t 0) (drop l.security-index l.securities))
+    → map (listed t 0) l.securities ≡ subscriptions_in l.waiting.items ++ map (listed t 0) (drop l.security-index l.securities))

@@ -9,8 +9,8 @@ use Rattle.backtest_core.proofs.HalfwayLemmas.{Halfway}
 use Rattle.backtest_core.proofs.leaving.mark_all.Given as goal
 
 abbrev pub invariant-loop-i : goal.invariant-loop-i
-invariant-loop-i l = 
+invariant-loop-i l =
     (vec_len l.watched ≡ vec_len l.fn.watched)
     × ((t : ℕ) (fs : List Followed) → AllZip (WatchesAt t) l.fn.watched.items fs
-      → Halfway (WatchesAt t) (λ w f. WatchesAt t w (marked_so l.symbols f)) l.i l.watched.items fs)
+    → Halfway (WatchesAt t) (λ w f. WatchesAt t w (marked_so l.symbols f)) l.i l.watched.items fs)
     × ((specs : List WindowSpec) → Each (HasWindows specs) l.fn.watched.items → Each (HasWindows specs) l.watched.items)

@@ -29,28 +29,29 @@ returns-clause-adds c = λ t v distinct s.
     let news : c.cut_news-over.new.news.items ≡ take (room us) (additions symbols us) =
     c.cut_news-over.ensures.news
     ∙ (ap (λ n. take (most_active - n) c.add_new.new.out.items) len ∙ ap (take (room us)) wanted) in
-    let at : unsigned_abs c.args.self.now.commands.at.0 ≡ t = ap (λ m. unsigned_abs m.0) s.at in
-    (record {
-      keeps = record {
-        plan = s.keeps.plan;
-        hours = s.keeps.hours;
-        table = s.keeps.table;
-        windows = c.mark_all.ensures.windows c.args.self.now.table.specs.items s.keeps.windows;
-        waiting = s.keeps.waiting;
-        seen = s.keeps.seen;
-        requests = s.keeps.requests;
-      };
-      watched = c.mark_all.ensures.marks t v.followed s.watched;
-      at = s.at;
-      phase = s.phase;
-      left = s.left;
-      over = s.over;
-      news = news;
-      text = c.in_ok-tell_added.ensures
-          ∙ (ap (λ l. l ++ lines_bytes (map (added (unsigned_abs c.args.self.now.commands.at.0)) c.deref-2.result.now)) s.text
-          ∙ (ap (λ n. lines_bytes (map (added n) c.deref-2.result.now)) at
-          ∙ ap (λ l. lines_bytes (map (added t) l)) (c.deref-2.ensures.value ∙ news)));
-    },
-    c.cut_news-over.ensures.over
-    ∙ (ap (λ n. nat_lt (most_active - n) (length c.add_new.new.out.items)) len
-    ∙ ap (λ l. nat_lt (room us) (length l)) wanted))
+    let at : unsigned_abs c.args.self.now.commands.at.0 ≡ t = ap (λ m. unsigned_abs m.0) s.at in (
+      record {
+        keeps = record {
+          plan = s.keeps.plan;
+          hours = s.keeps.hours;
+          table = s.keeps.table;
+          windows = c.mark_all.ensures.windows c.args.self.now.table.specs.items s.keeps.windows;
+          waiting = s.keeps.waiting;
+          seen = s.keeps.seen;
+          requests = s.keeps.requests;
+        };
+        watched = c.mark_all.ensures.marks t v.followed s.watched;
+        at = s.at;
+        phase = s.phase;
+        left = s.left;
+        over = s.over;
+        news = news;
+        text = c.in_ok-tell_added.ensures
+            ∙ (ap (λ l. l ++ lines_bytes (map (added (unsigned_abs c.args.self.now.commands.at.0)) c.deref-2.result.now)) s.text
+            ∙ (ap (λ n. lines_bytes (map (added n) c.deref-2.result.now)) at
+            ∙ ap (λ l. lines_bytes (map (added t) l)) (c.deref-2.ensures.value ∙ news)));
+      },
+      c.cut_news-over.ensures.over
+          ∙ (ap (λ n. nat_lt (most_active - n) (length c.add_new.new.out.items)) len
+          ∙ ap (λ l. nat_lt (room us) (length l)) wanted),
+    )

@@ -18,8 +18,14 @@ enter-requires-clause-sound c =
 pub enter-requires-clause-room : goal.enter-requires-clause-room
 enter-requires-clause-room c =
     let none : length c.clear.new.self.items ≡ 0 = ap length c.clear.ensures.items in
-    omega (arith, none, c.tell_prices.new.out.ok.0, c.args.self.now.watched.ok.0, c.args.self.now.few,
-    told_few c.args.self.now.commands.at c.args.self.now.watched.items c.clear.new.self.items c.tell_prices.new.out.items c.in_ok-tell_prices.ensures.told)
+    omega (
+      arith,
+      none,
+      c.tell_prices.new.out.ok.0,
+      c.args.self.now.watched.ok.0,
+      c.args.self.now.few,
+      told_few c.args.self.now.commands.at c.args.self.now.watched.items c.clear.new.self.items c.tell_prices.new.out.items c.in_ok-tell_prices.ensures.told,
+    )
 
 pub returns-clause-begins : goal.returns-clause-begins
 returns-clause-begins c = λ i s.

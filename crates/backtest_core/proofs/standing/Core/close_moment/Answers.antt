@@ -25,26 +25,27 @@ returns-clause-closes c = λ i s.
     let waiting : subscriptions_in c.in_ok-waiting.waiting.items ≡ (closed i).waiting =
     c.in_ok-waiting.ensures.waits i.at s.at
     ∙ (ap (joining_all core.plan.universe i.at) (c.deref-2.ensures.value ∙ s.news)
-    ∙ ap (λ (p : Plan). joining_all p.universe i.at i.news) s.keeps.plan) in
-    (record {
-      keeps = record {
-        plan = s.keeps.plan;
-        hours = s.keeps.hours;
-        table = s.keeps.table;
-        windows = subst (Each (HasWindows core.table.specs.items)) (sym stay)
-            (each-filter (HasWindows core.table.specs.items) (λ w. not (is_done seen (active_in w))) ws s.keeps.windows);
-        waiting = waiting;
-        seen = s.keeps.seen;
-        requests = s.keeps.requests;
-      };
-      watched = subst (λ ws. AllZip Watches ws (closed i).followed) (sym stay) (stay-watched seen i.at ws fs s.watched);
-      text = c.in_ok-removed.ensures.text seen s.keeps.seen
-          ∙ (ap (λ l. l ++ lines_bytes (lines_of (unsigned_abs core.commands.at.0) (leaving_of seen c.deref.result.now))) s.text
-          ∙ (ap (λ n. lines_bytes i.lines ++ lines_bytes (lines_of n (leaving_of seen c.deref.result.now))) at
-          ∙ (ap (λ l. lines_bytes i.lines ++ lines_bytes (lines_of i.at (leaving_of seen l))) c.deref.ensures.value
-          ∙ (ap (λ l. lines_bytes i.lines ++ lines_bytes l) (lines-leaving seen i.at i.at ws fs s.watched)
-          ∙ sym (flat_map-append line_bytes i.lines _)))));
-    },
-    c.in_ok-added.ensures ∙ (ap (map key_in) c.deref-3.ensures.value ∙ (sym (keys-waiting c.in_ok-waiting.waiting.items) ∙ ap (map (λ (x : Subscription). x.key)) waiting)),
-    c.in_ok-removed.ensures.feeds seen s.keeps.seen
-    ∙ (ap (λ l. map (λ w. w.feed) (leaving_of seen l)) c.deref.ensures.value ∙ feeds-leaving seen i.at ws fs s.watched))
+    ∙ ap (λ (p : Plan). joining_all p.universe i.at i.news) s.keeps.plan) in (
+      record {
+        keeps = record {
+          plan = s.keeps.plan;
+          hours = s.keeps.hours;
+          table = s.keeps.table;
+          windows = subst (Each (HasWindows core.table.specs.items)) (sym stay)
+              (each-filter (HasWindows core.table.specs.items) (λ w. not (is_done seen (active_in w))) ws s.keeps.windows);
+          waiting = waiting;
+          seen = s.keeps.seen;
+          requests = s.keeps.requests;
+        };
+        watched = subst (λ ws. AllZip Watches ws (closed i).followed) (sym stay) (stay-watched seen i.at ws fs s.watched);
+        text = c.in_ok-removed.ensures.text seen s.keeps.seen
+            ∙ (ap (λ l. l ++ lines_bytes (lines_of (unsigned_abs core.commands.at.0) (leaving_of seen c.deref.result.now))) s.text
+            ∙ (ap (λ n. lines_bytes i.lines ++ lines_bytes (lines_of n (leaving_of seen c.deref.result.now))) at
+            ∙ (ap (λ l. lines_bytes i.lines ++ lines_bytes (lines_of i.at (leaving_of seen l))) c.deref.ensures.value
+            ∙ (ap (λ l. lines_bytes i.lines ++ lines_bytes l) (lines-leaving seen i.at i.at ws fs s.watched)
+            ∙ sym (flat_map-append line_bytes i.lines _)))));
+      },
+      c.in_ok-added.ensures ∙ (ap (map key_in) c.deref-3.ensures.value ∙ (sym (keys-waiting c.in_ok-waiting.waiting.items) ∙ ap (map (λ (x : Subscription). x.key)) waiting)),
+      c.in_ok-removed.ensures.feeds seen s.keeps.seen
+          ∙ (ap (λ l. map (λ w. w.feed) (leaving_of seen l)) c.deref.ensures.value ∙ feeds-leaving seen i.at ws fs s.watched),
+    )

@@ -4,4 +4,4 @@ use Rattle.backtest_core.proofs.watched.Watched.rest.Goals as goal
 
 pub returns-clause-rests : goal.returns-clause-rests
 returns-clause-rests c = λ t f watches quiet.
-      rests-at t _ f (record { active = watches.active; period = watches.period; last = watches.last; follows = watches.follows }) quiet refl refl
+    rests-at t _ f (record { active = watches.active; period = watches.period; last = watches.last; follows = watches.follows }) quiet refl refl
