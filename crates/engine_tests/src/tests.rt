@@ -35,14 +35,14 @@ fn new_book(alloc: Global) -> Result<Book, Fail>
     Ok(Book::new(alloc, Money(10_000_000), costs, 1, hours))
 }
 
-// The feed of a symbol from minute 5 on.
+// The feed of a symbol from minute 5 on. It fills forward, so that the pool of a script gives the whole script.
 fn key() -> Result<FeedKey, Fail>
     ensures { IfOk result (λ key. IsMoment key.start.0) }
 {
     Ok(FeedKey {
         kind: FeedKind::Equity(Symbol::read(b"SPY").ok_or("a symbol")?, Resolution::Minute),
         start: Moment(5),
-        fill: false,
+        fill: true,
     })
 }
 
@@ -103,7 +103,7 @@ fn a_malformed_line_behind_its_moment(rt: HostRuntime) -> Result<(), Fail> {
     let said = ran(rt.alloc(), vec![in rt.alloc(); bar(6), bad]?, 65_536)?;
     assert_eq!(rt;
         said.as_str(),
-        ".data equity/usa/minute/spy/19700101_trade.csv line 3 price\nbad row"
+        ".data equity/usa/minute/spy/19700101_spy_minute_trade.csv line 3 price\nbad row"
     );
     Ok(())
 }
