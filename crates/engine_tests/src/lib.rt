@@ -3,6 +3,8 @@
 
 mod dots;
 mod running;
+#[cfg(test)]
+mod tests;
 
 pub use dots::Dots;
 pub use running::run_dots;
