@@ -1,11 +1,10 @@
 -- What is kept of a security's bars follows them, bar by bar.
-use Rattle.std.proofs.Common.{◌≡◌, ℕ, ℤ, ◌≤ℤ◌, ◌<ℤ◌, List, [], ◌∷◌, ◌++◌, Bool, true, false, refl, ap, sym, subst, ◌∙◌, arith, pos}
-use Rattle.std.specs.Prelude.{Option, Some, None, map, filter, find, cond, int_le, int_lt, ◌&&◌}
-use Rattle.std.specs.List.{AllByRecursion as Each, filter_map, cons_option, last_or, All}
+use Rattle.std.proofs.Common.{◌≡◌, ℕ, ℤ, ◌≤ℤ◌, ◌<ℤ◌, List, [], ◌∷◌, ◌++◌, true, false, refl, ap, sym, subst, ◌∙◌, arith}
+use Rattle.std.specs.Prelude.{Option, Some, None, map, find, cond, int_le, int_lt, ◌&&◌}
+use Rattle.std.specs.List.{AllByRecursion as Each, last_or}
 use Rattle.std.proofs.lemmas.Bool.{and_parts, and_from}
 use Rattle.std.proofs.lemmas.Int.{ints}
 use Rattle.std.proofs.lemmas.List.{append-nil}
-use Rattle.lean_fixed.specs.Ranges.{IsMoment}
 use Rattle.lean_fixed.specs.declared.money.Price.{Price}
 use Rattle.lean_items.specs.declared.arrival.Arrival.{Arrival}
 use Rattle.lean_items.specs.declared.bar.Bar.{Bar}
@@ -13,19 +12,18 @@ use Rattle.lean_items.specs.Fits.{is_bar_in_range}
 use Rattle.bar_windows.specs.Recent.{Recent, StandsFor as WindowsStandFor}
 use Rattle.consolidators.specs.declared.consolidator.Consolidator.{Consolidator}
 use Rattle.consolidators.specs.Buckets.{bucket_of, bucket_end}
-use Rattle.consolidators.specs.Pushed.{AreNumbers, IsPushed}
-use Rattle.consolidators.specs.Stands.{EndsBy, period_of}
+use Rattle.consolidators.specs.Stands.{period_of}
 use Rattle.consolidators.proofs.InRange.{numbers_told}
 use Rattle.clock_feeds.specs.Bars.{ends_at}
-use Rattle.clock_run.specs.Histories.{History, given_with, closes, bar_now, fresh_bar}
+use Rattle.clock_run.specs.Histories.{given_with, closes}
 use Rattle.clock_run.specs.Idle.{IsQuiet}
 use Rattle.clock_run.proofs.BarLemmas.{closes-push, ends-now, fresh-push}
 use Rattle.clock_run.proofs.EachLemmas.{find-none}
 use Rattle.clock_run.proofs.IdleLemmas.{fresh-quiet}
 use Rattle.backtest_core.specs.declared.watched.Watched.{Watched}
-use Rattle.backtest_core.specs.Following.{period_in, CanTake, LongerStands, FollowsBars, EndsFrom}
+use Rattle.backtest_core.specs.Following.{period_in, CanTake, FollowsBars, EndsFrom}
 use Rattle.backtest_core.specs.Standing.{Followed, history, feed_of}
-use Rattle.backtest_core.specs.Inside.{bar_for, bars_in, with_bars}
+use Rattle.backtest_core.specs.Inside.{bars_in, with_bars}
 use Rattle.backtest_core.specs.Slices.{IsBehind, FitsNow, FitsOnce}
 use Rattle.backtest_core.specs.Watching.{active_in, first_bar, is_behind, is_fit, IsLast, Watches, WatchesAt}
 

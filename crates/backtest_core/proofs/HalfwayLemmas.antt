@@ -1,6 +1,6 @@
 -- A loop that goes through a list beside another one: the items before a place are in one relation, and those from it on in
 -- another.
-use Rattle.std.proofs.Common.{◌≡◌, ℕ, zero, suc, ◌+◌, ◌<◌, ◌≤◌, List, [], ◌∷◌, refl, ap, sym, subst, ◌∙◌, arith, length, take, get_or}
+use Rattle.std.proofs.Common.{◌≡◌, ℕ, zero, suc, ◌<◌, ◌≤◌, List, [], ◌∷◌, refl, sym, subst, arith, length, take, get_or}
 use Rattle.std.specs.Prelude.{map, set}
 use Rattle.std.specs.List.{AllZip, AllByRecursion as Each}
 

@@ -1,6 +1,6 @@
 -- What arrives of the feeds in their order, and what the securities of a core make of it.
-use Rattle.std.proofs.Common.{◌≡◌, ℕ, zero, suc, ◌+◌, ◌<◌, ◌≤◌, List, [], ◌∷◌, ◌++◌, Bool, true, false, refl, ap, sym, subst, ◌∙◌, arith, length, take, drop, get_or}
-use Rattle.std.specs.Prelude.{Option, Some, None, map, set, cond, ◌==◌}
+use Rattle.std.proofs.Common.{◌≡◌, ℕ, zero, suc, ◌<◌, ◌≤◌, List, [], ◌∷◌, Bool, true, false, refl, ap, sym, subst, ◌∙◌, arith, length, take, drop, get_or}
+use Rattle.std.specs.Prelude.{Option, None, map, set, cond, ◌==◌}
 use Rattle.std.specs.List.{AllZip, AllByRecursion as Each, cons_option}
 use Rattle.std.proofs.lemmas.Bool.Decides.{nat_tests}
 use Rattle.lean_items.specs.declared.arrival.Arrival.{Arrival}

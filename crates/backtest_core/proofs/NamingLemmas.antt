@@ -1,6 +1,6 @@
 -- Where a security waits, found from the front on.
-use Rattle.std.proofs.Common.{◌≡◌, ℕ, suc, ◌+◌, ◌<◌, List, [], ◌∷◌, ◌++◌, true, false, refl, ap, sym, subst, ◌∙◌, arith, length, take, drop, get_or}
-use Rattle.std.specs.Prelude.{Some, cond, find, map}
+use Rattle.std.proofs.Common.{◌≡◌, ℕ, suc, ◌+◌, ◌<◌, List, [], ◌∷◌, ◌++◌, true, false, ap, sym, ◌∙◌, arith, length, take, drop, get_or}
+use Rattle.std.specs.Prelude.{Some, cond, find}
 use Rattle.std.proofs.lemmas.List.{append_assoc, map-append}
 use Rattle.backtest_core.specs.declared.waiting.Waiting.{Waiting}
 use Rattle.backtest_core.specs.Standing.{waits_as, without_first}

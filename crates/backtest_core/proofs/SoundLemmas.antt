@@ -1,7 +1,6 @@
 -- Whatever a core gives out is sound: its numbers are in their ranges, and it is of its phase.
-use Rattle.std.proofs.Common.{◌≡◌, ℕ, ◌+◌, ◌≤◌, ℤ, pos, List, [], ◌∷◌, ◌++◌, Bool, true, false, refl, ap, sym, subst, ◌∙◌, arith, length, length-append}
-use Rattle.std.specs.Prelude.{Option, Some, None, cond, map, filter, flat_map}
-use Rattle.std.specs.List.{AllByRecursion as Each}
+use Rattle.std.proofs.Common.{◌≡◌, ℕ, ◌+◌, ◌≤◌, ℤ, List, [], ◌∷◌, ◌++◌, Bool, true, false, refl, sym, subst, arith, length, length-append}
+use Rattle.std.specs.Prelude.{Option, Some, None, cond, map}
 use Rattle.std.specs.Option.{option_to_list, ForSome}
 use Rattle.std.proofs.lemmas.Int.{ints}
 use Rattle.lean_fixed.specs.Ranges.{IsMoment, IsPrintedMoment}
@@ -23,7 +22,7 @@ use Rattle.rule_strategy.specs.declared.rule.Action.{Action}
 use Rattle.rule_strategy.specs.declared.rule.Action.TheVariants as act
 use Rattle.rule_strategy.specs.Asked.{asked, asked_if, submits, updates, cancels, asked_by, requests_of}
 use Rattle.backtest_core.specs.declared.watched.Watched.{Watched}
-use Rattle.backtest_core.specs.Phases.{IsOf, AreOf}
+use Rattle.backtest_core.specs.Phases.{AreOf}
 use Rattle.backtest_core.specs.Watching.{mark_with, mark_in, marks_in}
 
 printed-moment : (z : ℤ) → IsPrintedMoment z → IsMoment z

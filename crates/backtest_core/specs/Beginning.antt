@@ -1,5 +1,5 @@
 -- A moment that begins: what stood before it, and nothing of it yet.
-use Rattle.std.specs.Prelude.{◌≡◌, ℕ, false, List, [], map, Option, None}
+use Rattle.std.specs.Prelude.{◌≡◌, ℕ, false, List, [], map, None}
 use Rattle.std.specs.List.{AllZip}
 use Rattle.lean_items.specs.declared.arrival.Arrival.{Arrival}
 use Rattle.exchange_hours.specs.Sessions.{moment}

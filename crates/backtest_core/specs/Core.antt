@@ -1,5 +1,5 @@
 -- What a core stands for, by what it keeps.
-use Rattle.std.specs.Prelude.{◌≡◌, ℕ, ◌≤◌, List, [], length}
+use Rattle.std.specs.Prelude.{◌≡◌, ℕ, ◌≤◌, List}
 use Rattle.std.specs.Arc.{arc_value}
 use Rattle.std.specs.List.{AllZip, AllByRecursion as Each}
 use Rattle.exchange_hours.specs.Sessions.{moment}

@@ -1,5 +1,5 @@
 -- What a security keeps of its bars: the bars of a longer period that are being made, and the closes that its windows hear.
-use Rattle.std.specs.Prelude.{◌≡◌, ℕ, ℤ, ◌≤ℤ◌, List, [], Option, Some, None, option_map}
+use Rattle.std.specs.Prelude.{ℕ, ℤ, ◌≤ℤ◌, List, [], Option, Some, None, option_map}
 use Rattle.std.specs.Option.{ForSome}
 use Rattle.lean_fixed.specs.Ranges.{IsMoment, IsPrice}
 use Rattle.lean_items.specs.declared.bar.Bar.{Bar}

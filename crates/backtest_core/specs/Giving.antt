@@ -1,5 +1,5 @@
 -- What a core still may give: the commands that are left of a phase, and the numbers of those to come.
-use Rattle.std.specs.Prelude.{◌≡◌, ℕ, ◌+◌, ◌≤◌, Bool, true, false, List, length, drop, if◌then◌else◌}
+use Rattle.std.specs.Prelude.{ℕ, ◌+◌, ◌≤◌, List, length, drop, if◌then◌else◌}
 use Rattle.lean_orders.specs.declared.desk.Command.{Command}
 use Rattle.backtest_core.specs.declared.commands.Commands.{Commands}
 use Rattle.backtest_core.specs.Phases.{is_request, others_left, requests_left}

@@ -1,5 +1,5 @@
 -- The commands of a phase: which they are, and how many more may come.
-use Rattle.std.specs.Prelude.{◌≡◌, ℕ, ◌+◌, ◌-◌, ℤ, Bool, true, false, List, [], ◌∷◌, length, drop, Option, Some, None}
+use Rattle.std.specs.Prelude.{◌≡◌, ℕ, ◌+◌, ◌-◌, ℤ, Bool, true, false, List, [], ◌∷◌, Option, Some, None}
 use Rattle.std.specs.List.{AllByRecursion as Each, AllByRecursion-prop}
 use Rattle.std.proofs.Props.{props}
 use Rattle.lean_orders.specs.declared.desk.Command.{Command}

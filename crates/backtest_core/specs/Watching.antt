@@ -4,7 +4,6 @@ use Rattle.std.specs.List.{AllByRecursion as Each}
 use Rattle.std.specs.Option.{option_to_list}
 use Rattle.lean_fixed.specs.Ranges.{IsMoment}
 use Rattle.lean_fixed.specs.declared.time.Moment.{Moment}
-use Rattle.lean_items.specs.declared.arrival.Arrival.{Arrival}
 use Rattle.lean_items.specs.declared.bar.Bar.{Bar}
 use Rattle.lean_items.specs.Fits.{is_bar_in_range}
 use Rattle.consolidators.specs.Buckets.{bucket_of, bucket_end}
@@ -12,13 +11,10 @@ use Rattle.lean_orders.specs.declared.desk.Command.{Command}
 use Rattle.lean_orders.specs.declared.desk.Command.TheVariants.{Mark}
 use Rattle.universe_state.specs.Active.{Active}
 use Rattle.clock_run.specs.Histories.{bar_now, fresh_bar}
-use Rattle.clock_run.specs.Idle.{IsQuiet}
 use Rattle.clock_run.specs.Moments.{price_bar}
 use Rattle.backtest_core.specs.declared.watched.Watched.{Watched}
 use Rattle.backtest_core.specs.Following.{FollowsBars}
-use Rattle.backtest_core.specs.Standing.{Followed, history, feed_of}
-use Rattle.backtest_core.specs.Inside.{bars_in}
-use Rattle.backtest_core.specs.Slices.{FitsOnce}
+use Rattle.backtest_core.specs.Standing.{Followed, history}
 
 abbrev pub active_in : Watched → Active
 active_in w = record { symbol = w.symbol; feed = w.feed; listed = w.listed; marked = w.marked }

@@ -1,4 +1,4 @@
-use Rattle.std.proofs.Common.{◌≡◌, ◌++◌, ◌∷◌, [], ap, ◌∙◌}
+use Rattle.std.proofs.Common.{◌++◌, ◌∷◌, [], ap, ◌∙◌}
 use Rattle.std.proofs.lemmas.List.{map-append}
 use Rattle.backtest_core.specs.Waiting.{subscription_in, subscriptions_in}
 use Rattle.backtest_core.proofs.closing.add_joining.Goals as goal

@@ -1,5 +1,4 @@
-use Rattle.std.proofs.Common.{◌≡◌, ◌<◌, ◌+◌, ℕ, List, length, refl, ap, sym, subst, ◌∙◌, arith, slice_index_or, set, length-set}
-use Rattle.std.specs.List.{AllZip}
+use Rattle.std.proofs.Common.{◌<◌, length, refl, ap, sym, subst, ◌∙◌, arith, set}
 use Rattle.backtest_core.specs.declared.watched.Watched.{Watched}
 use Rattle.backtest_core.specs.Standing.{Followed}
 use Rattle.backtest_core.specs.Inside.{marked_so}

@@ -1,4 +1,4 @@
-use Rattle.std.proofs.Common.{◌≡◌, ap, sym, arith, pos, ◌<ℤ◌, ◌≤ℤ◌, ◌-ℤ◌}
+use Rattle.std.proofs.Common.{◌≡◌, ap, sym, arith, pos}
 use Rattle.std.proofs.lemmas.Int.{ints}
 use Rattle.backtest_core.proofs.telling.is_closing.Goals as goal
 

@@ -1,4 +1,4 @@
-use Rattle.std.proofs.Common.{◌≡◌, ◌≤◌, ℕ, length, drop}
+use Rattle.std.proofs.Common.{◌≡◌, ◌≤◌, ℕ, drop}
 use Rattle.backtest_core.specs.Inside.{bars_in}
 use Rattle.backtest_core.proofs.watching.find_bar.Given as goal
 

@@ -1,6 +1,5 @@
-use Rattle.std.proofs.Common.{◌≡◌, ◌<◌, ◌≤◌, ◌+◌, length, refl, sym, subst, ap, ◌∙◌, arith, slice_index_or, ℕ, drop, set, length-set}
-use Rattle.backtest_core.specs.declared.watched.Watched.{Watched}
-use Rattle.backtest_core.specs.Standing.{Followed, history, feed_of}
+use Rattle.std.proofs.Common.{◌≡◌, ◌<◌, ◌≤◌, length, refl, subst, ap, ◌∙◌, arith, slice_index_or, ℕ, drop, set, length-set}
+use Rattle.backtest_core.specs.Standing.{history, feed_of}
 use Rattle.backtest_core.specs.Inside.{bars_in, with_bars}
 use Rattle.backtest_core.specs.Slices.{FitsOnce}
 use Rattle.backtest_core.specs.Watching.{first_bar, Watches, WatchesAt}

@@ -1,10 +1,8 @@
-use Rattle.std.proofs.Common.{◌≡◌, ℕ, ◌-◌, ◌++◌, List, [], ap, sym, ◌∙◌, length, take, map, unsigned_abs}
+use Rattle.std.proofs.Common.{◌≡◌, ◌-◌, ◌++◌, ap, sym, ◌∙◌, length, take, map, unsigned_abs}
 use Rattle.std.specs.Prelude.{nat_lt}
 use Rattle.std.proofs.lemmas.List.{length-map}
-use Rattle.universe_state.specs.Active.{Active, is_active}
 use Rattle.universe_state.specs.Choice.{most_active, additions, room}
 use Rattle.clock_run.specs.Lines.{added}
-use Rattle.backtest_core.specs.Standing.{Standing}
 use Rattle.backtest_core.specs.Inside.{actives_in}
 use Rattle.backtest_core.specs.Watching.{active_in}
 use Rattle.backtest_core.specs.Leaving.{new_among, new_beside}

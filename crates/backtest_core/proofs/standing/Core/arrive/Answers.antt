@@ -1,5 +1,4 @@
-use Rattle.std.proofs.Common.{◌≡◌, ℕ, List, [], Bool, true, false, refl, sym, ◌∙◌}
-use Rattle.backtest_core.specs.Standing.{Standing}
+use Rattle.std.proofs.Common.{refl, sym, ◌∙◌}
 use Rattle.backtest_core.specs.Inside.{choice_in}
 use Rattle.backtest_core.specs.Beginning.{with_slice}
 use Rattle.backtest_core.proofs.CoreLemmas.{too-many-heard}

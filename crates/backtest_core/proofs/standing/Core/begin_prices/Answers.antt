@@ -1,6 +1,5 @@
-use Rattle.std.proofs.Common.{◌≡◌, ◌++◌, ◌∷◌, [], ap, sym, subst, ◌∙◌, arith, length, false, Some}
+use Rattle.std.proofs.Common.{◌≡◌, ◌++◌, ◌∷◌, [], ap, sym, subst, ◌∙◌, arith, length, false}
 use Rattle.lean_orders.specs.declared.desk.Command.TheVariants.{Match}
-use Rattle.exchange_hours.specs.Sessions.{moment}
 use Rattle.clock_run.specs.Moments.{marks}
 use Rattle.backtest_core.specs.Inside.{histories_in}
 use Rattle.backtest_core.specs.Watching.{marks_in}

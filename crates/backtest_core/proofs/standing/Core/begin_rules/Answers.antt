@@ -1,4 +1,4 @@
-use Rattle.std.proofs.Common.{◌≡◌, ◌-◌, ◌++◌, [], ap, sym, subst, ◌∙◌, take, length}
+use Rattle.std.proofs.Common.{◌≡◌, ◌-◌, ◌++◌, ap, sym, subst, ◌∙◌, take, length}
 use Rattle.std.specs.Prelude.{nat_lt}
 use Rattle.std.specs.List.{AllZip, AllByRecursion as Each}
 use Rattle.rule_strategy.specs.declared.plan.Plan.{Plan}
@@ -6,8 +6,7 @@ use Rattle.clock_run.specs.Moments.{most_requests}
 use Rattle.clock_run.specs.Requests.{requests}
 use Rattle.backtest_core.specs.Asking.{FindsRule, HasWindows}
 use Rattle.backtest_core.specs.Watching.{WatchesAt}
-use Rattle.backtest_core.specs.Inside.{Inside, asked, histories_in}
-use Rattle.backtest_core.specs.Core.{StandsIn}
+use Rattle.backtest_core.specs.Inside.{asked, histories_in}
 use Rattle.backtest_core.proofs.standing.Core.begin_rules.Goals as goal
 
 pub returns-clause-begins : goal.returns-clause-begins

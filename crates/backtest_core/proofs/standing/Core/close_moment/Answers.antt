@@ -1,11 +1,11 @@
-use Rattle.std.proofs.Common.{◌≡◌, ℕ, ◌++◌, List, [], ap, sym, subst, ◌∙◌, map, unsigned_abs}
-use Rattle.std.specs.Prelude.{filter, not, flat_map}
+use Rattle.std.proofs.Common.{◌≡◌, ◌++◌, ap, sym, subst, ◌∙◌, map, unsigned_abs}
+use Rattle.std.specs.Prelude.{not}
 use Rattle.std.specs.List.{AllZip, AllByRecursion as Each}
 use Rattle.std.proofs.lemmas.List.Concat.{flat_map-append}
 use Rattle.rule_strategy.specs.declared.plan.Plan.{Plan}
 use Rattle.clock_run.specs.Lines.{line_bytes}
 use Rattle.clock_run.specs.States.{Subscription}
-use Rattle.backtest_core.specs.Inside.{joining_all, leaving, closed, lines_closed}
+use Rattle.backtest_core.specs.Inside.{joining_all, closed}
 use Rattle.backtest_core.specs.Watching.{active_in, Watches}
 use Rattle.backtest_core.specs.Asking.{HasWindows}
 use Rattle.backtest_core.specs.Waiting.{key_in, subscriptions_in}

@@ -1,11 +1,10 @@
-use Rattle.std.proofs.Common.{◌≡◌, ◌+◌, ◌++◌, ◌∷◌, [], ap, sym, subst, ◌∙◌, take, drop}
-use Rattle.std.specs.Prelude.{Option, Some, find}
+use Rattle.std.proofs.Common.{◌≡◌, ◌++◌, ◌∷◌, [], ap, sym, subst, ◌∙◌}
+use Rattle.std.specs.Prelude.{Some, find}
 use Rattle.std.specs.List.{AllZip, AllByRecursion as Each}
-use Rattle.backtest_core.specs.Standing.{waits_as, without_first, with_feed, named_as, named}
+use Rattle.backtest_core.specs.Standing.{waits_as, without_first, with_feed}
 use Rattle.backtest_core.specs.Waiting.{subscription_in, subscriptions_in}
 use Rattle.backtest_core.specs.Watching.{Watches}
 use Rattle.backtest_core.specs.Asking.{HasWindows}
-use Rattle.backtest_core.specs.Core.{StandsFor}
 use Rattle.backtest_core.proofs.CoreLemmas.{each_append, zip_append}
 use Rattle.backtest_core.proofs.StandLemmas.{named-is}
 use Rattle.backtest_core.proofs.standing.Core.watch.Goals as goal

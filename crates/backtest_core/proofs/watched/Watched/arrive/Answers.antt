@@ -1,4 +1,4 @@
-use Rattle.std.proofs.Common.{◌++◌, ◌∷◌, [], refl, ap, sym, subst, ◌∙◌, Some, None}
+use Rattle.std.proofs.Common.{◌++◌, sym, subst, ◌∙◌}
 use Rattle.backtest_core.specs.Standing.{feed_of}
 use Rattle.backtest_core.specs.Inside.{bars_in}
 use Rattle.backtest_core.specs.Watching.{WatchesAt}
