@@ -1,6 +1,6 @@
 -- A strategy that prints a dot at each moment at which something ends, and asks for nothing.
-use Rattle.std.specs.Prelude.{◌≡◌, ℕ, Bool, false, List, ◌++◌, ◌∷◌, [], length, None, codes, ◌<◌, ◌≤◌, ◌^◌}
-use Rattle.std.proofs.Common.{refl, sym, ap, ◌∙◌, subst, append-nil, arith}
+use Rattle.std.specs.Prelude.{◌≡◌, ℕ, false, List, ◌∷◌, [], length, None, codes, ◌<◌, ◌≤◌, ◌^◌}
+use Rattle.std.proofs.Common.{refl, sym, ◌∙◌, subst, append-nil, arith}
 use Rattle.lean_items.specs.declared.arrival.Arrival.{Arrival}
 use Rattle.lean_items.specs.declared.feed_key.FeedKey.{FeedKey}
 use Rattle.lean_orders.specs.declared.desk.Command.{Command}
@@ -9,7 +9,7 @@ use Rattle.clock_book.specs.Fitting.{most_orders}
 use Rattle.clock_book.specs.Handled.{after, replies}
 use Rattle.clock_steps.specs.Runs.{rests}
 use Rattle.backtest_engine.specs.Meaning.{Meaning, State, moment_of}
-use Rattle.backtest_engine.specs.Turns.{Turn, numbered, HasNext, IsFinished, turn_after, text_after}
+use Rattle.backtest_engine.specs.Turns.{Turn, numbered, turn_after, text_after}
 
 abbrev pub dot : List Arrival → List ℕ
 dot [] = []
