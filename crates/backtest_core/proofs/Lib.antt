@@ -13,3 +13,4 @@ pub mod LearnLemmas
 pub mod NamingLemmas
 pub mod CoreLemmas
 pub mod StandLemmas
+pub mod JoinLemmas

@@ -1,5 +1,5 @@
 -- A whole moment of a core, and the moment of the definition in its parts.
-use Rattle.std.proofs.Common.{◌≡◌, ℕ, ◌-◌, List, [], ◌∷◌, ◌++◌, Bool, true, false, refl, ap, sym, subst, ◌∙◌}
+use Rattle.std.proofs.Common.{◌≡◌, ℕ, ◌+◌, ◌-◌, List, [], ◌∷◌, ◌++◌, Bool, true, false, refl, ap, sym, subst, ◌∙◌}
 use Rattle.std.specs.Prelude.{Option, Some, None, if◌then◌else◌, length, nat_lt}
 use Rattle.std.proofs.lemmas.List.{append-nil, append_assoc}
 use Rattle.lean_items.specs.declared.arrival.Arrival.{Arrival}
@@ -21,9 +21,10 @@ use Rattle.backtest_core.specs.declared.phase.Phase.TheVariants.{Prices, Rules, 
 use Rattle.backtest_core.specs.Standing.{standing_of, named_all}
 use Rattle.backtest_core.specs.Inside.{Inside, begins, arrived, is_over_in, joining_all, closed, lines_closed}
 use Rattle.backtest_core.specs.Whole.{through}
+use Rattle.backtest_core.specs.Served.{Serves}
 use Rattle.backtest_core.specs.Made.{Ties, priced, traded_on, closed_on, left_behind, lines_behind, core_behind}
 use Rattle.backtest_core.proofs.PhaseLemmas.{IsBefore}
-use Rattle.backtest_core.proofs.PartLemmas.{Joins, prices-pass, trading-pass, closing-pass, over-is, closed-lines, closed-standing}
+use Rattle.backtest_core.proofs.PartLemmas.{Joins, prices-pass, prices-served, trading-pass, trading-served, closing-pass, closing-served, over-is, closed-lines, closed-standing}
 use Rattle.backtest_core.proofs.StartLemmas.{Begins, begins as begins_at}
 
 five-parts : {A : Type 0} (a b c d e : List A) → (((a ++ b) ++ c) ++ d) ++ e ≡ a ++ (((b ++ c) ++ d) ++ e)
@@ -44,6 +45,17 @@ pub record Makes (setup : Setup) (t : ℕ) (known : Known) (n : ℕ) (i : Inside
   pub over : is_over_in Rules (through Prices s.book i)
       ≡ nat_lt (most_requests - (priced t known s).requests)
       (length (requests setup.plan.rules (seen_of (priced t known s).book) t (histories known (priced t known s))))
+  pub traded : (through Rules (priced t known s).book (through Prices s.book i)).lines
+      ≡ i.lines ++ ((prices t known s).lines ++ (trading setup t known (priced t known s)).lines)
+  pub serves : Serves setup t known s i
+  pub feeds : n + length (closed (core_behind setup t known s i)).waiting ≡ (left_behind setup t known s).feeds
+
+closing-feeds : (hours : Entries) (t : ℕ) (s : State) → (closing hours t s).state.feeds ≡ s.feeds
+closing-feeds hours t s = by (is_closing hours t)
+  where
+    by : (b : Bool) → (if b then served t (Account (moment t) ∷ []) s else rests s).state.feeds ≡ s.feeds
+    by true = refl
+    by false = refl
 
 pub makes : (setup : Setup) (t n : ℕ) (known : Known) (i : Inside) (one : Ran State Line Halt)
     → Begins setup.plan.universe setup t n known i one → Makes setup t known n i one.state
@@ -77,7 +89,15 @@ makes setup t n known i one b =
           ∙ five-parts i.lines priced_lines traded_lines closed_lines removed_lines);
       stands = closed-standing setup t known b.old b.new b.silent i3 s3 n p3.tracks
           (subst (λ ws. Joins n ws b.new) (sym waiting) b.joins);
+      feeds = ap (λ ws. n + length ws) waiting ∙ (b.feeds ∙ sym (closing-feeds setup.hours t s2));
       over = over-is setup t known b.old b.new b.silent i1 s1 p1.tracks;
+      traded = p2.lines_are ∙ ap (λ ls. ls ++ traded_lines) p1.lines_are
+          ∙ append_assoc i.lines priced_lines traded_lines;
+      serves = record {
+        prices = prices-served setup t known b.old b.new b.silent i s (is-before Prices i None b.phase refl) b.tracks;
+        rules = trading-served setup t known b.old b.new b.silent i1 s1 (is-before Rules i1 (Some Prices) p1.phase_is refl) p1.tracks;
+        close = closing-served setup t known b.old b.new b.silent i2 s2 (is-before Close i2 (Some Rules) p2.phase_is refl) p2.tracks;
+      };
     }
 
 pub makes-lines : (setup : Setup) (t : ℕ) (before known : Known) (slice : List Arrival) (s : State) → Ties setup t before known slice s
@@ -106,6 +126,31 @@ limit-of-requests setup t before known slice s ties =
     let one = selection setup.plan.universe t known.coarse s in
     ap (λ over. if over then Some too_many_requests else None)
     (sym (makes setup t s.feeds known (arrived t slice (standing_of setup s before)) one (begins_at setup t before known slice s ties)).over)
+
+pub makes-traded : (setup : Setup) (t : ℕ) (before known : Known) (slice : List Arrival) (s : State) → Ties setup t before known slice s
+    → (through Rules (priced t known (selection setup.plan.universe t known.coarse s).state).book
+    (through Prices (selection setup.plan.universe t known.coarse s).state.book (arrived t slice (standing_of setup s before)))).lines
+    ≡ (selection setup.plan.universe t known.coarse s).lines
+    ++ ((prices t known (selection setup.plan.universe t known.coarse s).state).lines
+    ++ (trading setup t known (priced t known (selection setup.plan.universe t known.coarse s).state)).lines)
+makes-traded setup t before known slice s ties =
+    let b = begins_at setup t before known slice s ties in
+    let one = selection setup.plan.universe t known.coarse s in
+    (makes setup t s.feeds known (arrived t slice (standing_of setup s before)) one b).traded
+    ∙ ap (λ ls. ls ++ ((prices t known one.state).lines ++ (trading setup t known (priced t known one.state)).lines)) b.lines
+
+pub makes-served : (setup : Setup) (t : ℕ) (before known : Known) (slice : List Arrival) (s : State) → Ties setup t before known slice s
+    → Serves setup t known (selection setup.plan.universe t known.coarse s).state (arrived t slice (standing_of setup s before))
+makes-served setup t before known slice s ties =
+    (makes setup t s.feeds known (arrived t slice (standing_of setup s before)) (selection setup.plan.universe t known.coarse s)
+    (begins_at setup t before known slice s ties)).serves
+
+pub makes-feeds : (setup : Setup) (t : ℕ) (before known : Known) (slice : List Arrival) (s : State) → Ties setup t before known slice s
+    → s.feeds + length (closed (core_behind setup t known (selection setup.plan.universe t known.coarse s).state (arrived t slice (standing_of setup s before)))).waiting
+    ≡ (left_behind setup t known (selection setup.plan.universe t known.coarse s).state).feeds
+makes-feeds setup t before known slice s ties =
+    (makes setup t s.feeds known (arrived t slice (standing_of setup s before)) (selection setup.plan.universe t known.coarse s)
+    (begins_at setup t before known slice s ties)).feeds
 
 -- the definition in its parts
 module _ {S L Z : Type 0} where
@@ -178,3 +223,33 @@ unfolding moment_of
 halted-securities setup t known s halt stopped =
     before-some (selection setup.plan.universe t known.coarse s)
     (in_turn (prices t known ∷ trading setup t known ∷ closing setup.hours t ∷ removals t ∷ refusal setup known ∷ [])) halt stopped
+
+pub halted-requests : (setup : Setup) (t : ℕ) (known : Known) (s : State) (halt : Halt)
+    → (selection setup.plan.universe t known.coarse s).stop ≡ None
+    → (trading setup t known (priced t known (selection setup.plan.universe t known.coarse s).state)).stop ≡ Some halt
+    → moment_of setup t known s ≡ record {
+      lines = (selection setup.plan.universe t known.coarse s).lines
+          ++ ((prices t known (selection setup.plan.universe t known.coarse s).state).lines
+          ++ (trading setup t known (priced t known (selection setup.plan.universe t known.coarse s).state)).lines);
+      state = traded_on setup t known (selection setup.plan.universe t known.coarse s).state;
+      stop = Some halt;
+    }
+unfolding moment_of
+halted-requests setup t known s halt chosen stopped =
+    let one = selection setup.plan.universe t known.coarse s in
+    let of_closing = closing setup.hours t ∷ removals t ∷ refusal setup known ∷ [] in
+    let of_trading = trading setup t known ∷ of_closing in
+    let of_prices = prices t known ∷ of_trading in
+    let s0 = one.state in
+    let s1 = priced t known s0 in
+    let e2 : in_turn of_trading s1 ≡ trading setup t known s1 =
+    before-some (trading setup t known s1) (in_turn of_closing) halt stopped in
+    let e1 : in_turn of_prices s0 ≡ behind (prices t known s0).lines (trading setup t known s1) =
+    ap (behind (prices t known s0).lines) e2 in
+    before-none one (in_turn of_prices) chosen
+    ∙ (ap (behind one.lines) e1
+    ∙ (λ j. record {
+      lines = one.lines ++ ((prices t known s0).lines ++ (trading setup t known s1).lines);
+      state = traded_on setup t known s0;
+      stop = stopped j;
+    }))

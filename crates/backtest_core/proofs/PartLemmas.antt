@@ -30,9 +30,10 @@ use Rattle.clock_run.proofs.IdleLemmas.{marks-quiet, rule-quiet}
 use Rattle.backtest_core.specs.declared.phase.Phase.{Phase}
 use Rattle.backtest_core.specs.declared.phase.Phase.TheVariants.{Prices, Rules, Close}
 use Rattle.backtest_core.specs.Standing.{Followed, Standing, history, with_feed, waits_as, without_first, named_as, named, named_all, followed_of, standing_of}
-use Rattle.backtest_core.specs.Inside.{Inside, histories_in, asked, commands_of, is_over_in, leaving, closed, lines_closed}
+use Rattle.backtest_core.specs.Inside.{Inside, histories_in, asked, commands_of, is_over_in, entered, leaving, closed, lines_closed}
 use Rattle.backtest_core.specs.Whole.{through}
-use Rattle.backtest_core.proofs.PhaseLemmas.{requests_behind, IsBefore, ended, through-ended}
+use Rattle.backtest_core.specs.Served.{IsServed}
+use Rattle.backtest_core.proofs.PhaseLemmas.{requests_behind, IsBefore, ended, entered-is, through-ended}
 
 -- A core within a moment stands for a state of the definition, of whose securities it follows those that were active before.
 pub record Tracks (setup : Setup) (t : ℕ) (known : Known) (old new : List Subscription) (i : Inside) (s : State) : Type 0 where
@@ -182,16 +183,30 @@ module _ (setup : Setup) (t : ℕ) (known : Known) (old new : List Subscription)
   nothing-passes i s before none tracks = passes Close [] s.equities i s before none tracks
 
   -- prices
+  prices-commands : (i : Inside) (s : State) → Tracks setup t known old new i s → commands_of Prices i ≡ marks t (histories known s) ++ Match (moment t) ∷ []
+  prices-commands i s tracks =
+      ap (λ at. marks at (histories_in i) ++ Match (moment at) ∷ []) tracks.at
+      ∙ (ap (λ fs. marks t (map history fs) ++ Match (moment t) ∷ []) tracks.followed
+      ∙ (ap (λ hs. marks t hs ++ Match (moment t) ∷ []) (history-map known old)
+      ∙ ap (λ ms. ms ++ Match (moment t) ∷ []) (same-marks s tracks.securities)))
+
   pub prices-pass : (i : Inside) (s : State) → IsBefore Prices i → Tracks setup t known old new i s
       → Passes Prices i (through Prices s.book i) s (prices t known s).state (prices t known s).lines
   prices-pass i s before tracks =
       let cs = marks t (histories known s) ++ Match (moment t) ∷ [] in
-      let commands : commands_of Prices i ≡ cs =
-      ap (λ at. marks at (histories_in i) ++ Match (moment at) ∷ []) tracks.at
-      ∙ (ap (λ fs. marks t (map history fs) ++ Match (moment t) ∷ []) tracks.followed
-      ∙ (ap (λ hs. marks t hs ++ Match (moment t) ∷ []) (history-map known old)
-      ∙ ap (λ ms. ms ++ Match (moment t) ∷ []) (same-marks s tracks.securities))) in
-      passes Prices cs (s.equities ++ filter_map equity_told (replies s.book cs)) i s before commands tracks
+      passes Prices cs (s.equities ++ filter_map equity_told (replies s.book cs)) i s before (prices-commands i s tracks) tracks
+
+  -- the book and the equities behind a phase are those of its commands
+  served-by : (phase : Phase) (cs : List Command) (i : Inside) (s next : State) → IsBefore phase i → commands_of phase i ≡ cs → IsServed s cs next
+      → IsServed s (entered phase i).left next
+  served-by phase cs i s next before commands served =
+      subst (λ cs. IsServed s cs next) (sym (ap (λ (e : Inside). e.left) (entered-is phase i before) ∙ commands)) served
+
+  pub prices-served : (i : Inside) (s : State) → IsBefore Prices i → Tracks setup t known old new i s
+      → IsServed s (entered Prices i).left (prices t known s).state
+  prices-served i s before tracks =
+      let cs = marks t (histories known s) ++ Match (moment t) ∷ [] in
+      served-by Prices cs i s (prices t known s).state before (prices-commands i s tracks) (record { book = refl; equities = refl })
 
   -- trading
   asked-is : (i : Inside) (s : State) → Tracks setup t known old new i s
@@ -204,15 +219,23 @@ module _ (setup : Setup) (t : ℕ) (known : Known) (old new : List Subscription)
       ∙ (ap (requests setup.plan.rules (seen_of s.book) t) (history-map known old)
       ∙ same-requests setup.plan.rules (seen_of s.book) s tracks.securities))))
 
+  trading-commands : (i : Inside) (s : State) → Tracks setup t known old new i s
+      → commands_of Rules i ≡ take (most_requests - s.requests) (requests setup.plan.rules (seen_of s.book) t (histories known s))
+  trading-commands i s tracks =
+      ap (take (most_requests - i.standing.requests)) (asked-is i s tracks)
+      ∙ ap (λ n. take (most_requests - n) (requests setup.plan.rules (seen_of s.book) t (histories known s))) tracks.requests
+
   pub trading-pass : (i : Inside) (s : State) → IsBefore Rules i → Tracks setup t known old new i s
       → Passes Rules i (through Rules s.book i) s (trading setup t known s).state (trading setup t known s).lines
   trading-pass i s before tracks =
-      let wanted = requests setup.plan.rules (seen_of s.book) t (histories known s) in
-      let cs = take (most_requests - s.requests) wanted in
-      let commands : commands_of Rules i ≡ cs =
-      ap (take (most_requests - i.standing.requests)) (asked-is i s tracks)
-      ∙ ap (λ n. take (most_requests - n) wanted) tracks.requests in
-      passes Rules cs (s.equities ++ filter_map equity_told (replies s.book cs)) i s before commands tracks
+      let cs = take (most_requests - s.requests) (requests setup.plan.rules (seen_of s.book) t (histories known s)) in
+      passes Rules cs (s.equities ++ filter_map equity_told (replies s.book cs)) i s before (trading-commands i s tracks) tracks
+
+  pub trading-served : (i : Inside) (s : State) → IsBefore Rules i → Tracks setup t known old new i s
+      → IsServed s (entered Rules i).left (trading setup t known s).state
+  trading-served i s before tracks =
+      let cs = take (most_requests - s.requests) (requests setup.plan.rules (seen_of s.book) t (histories known s)) in
+      served-by Rules cs i s (trading setup t known s).state before (trading-commands i s tracks) (record { book = refl; equities = refl })
 
   pub over-is : (i : Inside) (s : State) → Tracks setup t known old new i s
       → is_over_in Rules i ≡ nat_lt (most_requests - s.requests) (length (requests setup.plan.rules (seen_of s.book) t (histories known s)))
@@ -221,25 +244,42 @@ module _ (setup : Setup) (t : ℕ) (known : Known) (old new : List Subscription)
       ∙ ap (λ n. nat_lt (most_requests - n) (length (requests setup.plan.rules (seen_of s.book) t (histories known s)))) tracks.requests
 
   -- the close of a session
+  closing-commands : (i : Inside) (s : State) → Tracks setup t known old new i s
+      → (b : Bool) → is_closing setup.hours t ≡ b → commands_of Close i ≡ (if b then Account (moment t) ∷ [] else [])
+  closing-commands i s tracks b is =
+      ap (λ setup. if is_closing setup.hours i.at then Account (moment i.at) ∷ [] else []) tracks.setup_is
+      ∙ (ap (λ at. if is_closing setup.hours at then Account (moment at) ∷ [] else []) tracks.at
+      ∙ ap (λ b. if b then Account (moment t) ∷ [] else []) is)
+
   pub closing-pass : (i : Inside) (s : State) → IsBefore Close i → Tracks setup t known old new i s
       → Passes Close i (through Close s.book i) s (closing setup.hours t s).state (closing setup.hours t s).lines
   closing-pass i s before tracks = by (is_closing setup.hours t) refl
     where
-      commands : (b : Bool) → is_closing setup.hours t ≡ b → commands_of Close i ≡ (if b then Account (moment t) ∷ [] else [])
-      commands b is =
-          ap (λ setup. if is_closing setup.hours i.at then Account (moment i.at) ∷ [] else []) tracks.setup_is
-          ∙ (ap (λ at. if is_closing setup.hours at then Account (moment at) ∷ [] else []) tracks.at
-          ∙ ap (λ b. if b then Account (moment t) ∷ [] else []) is)
-
       by : (b : Bool) → is_closing setup.hours t ≡ b
           → Passes Close i (through Close s.book i) s (closing setup.hours t s).state (closing setup.hours t s).lines
       by true is =
           let cs = Account (moment t) ∷ [] in
           subst (λ b. Passes Close i (through Close s.book i) s (if b then served t cs s else rests s).state (if b then served t cs s else rests s).lines) (sym is)
-          (passes Close cs (s.equities ++ filter_map equity_told (replies s.book cs)) i s before (commands true is) tracks)
+          (passes Close cs (s.equities ++ filter_map equity_told (replies s.book cs)) i s before (closing-commands i s tracks true is) tracks)
       by false is =
           subst (λ b. Passes Close i (through Close s.book i) s (if b then served t (Account (moment t) ∷ []) s else rests s).state (if b then served t (Account (moment t) ∷ []) s else rests s).lines) (sym is)
-          (nothing-passes i s before (commands false is) tracks)
+          (nothing-passes i s before (closing-commands i s tracks false is) tracks)
+
+  nothing-served : (s : State) → IsServed s [] s
+  unfolding after replies
+  nothing-served s = record { book = refl; equities = append-nil s.equities }
+
+  pub closing-served : (i : Inside) (s : State) → IsBefore Close i → Tracks setup t known old new i s
+      → IsServed s (entered Close i).left (closing setup.hours t s).state
+  closing-served i s before tracks = by (is_closing setup.hours t) refl
+    where
+      by : (b : Bool) → is_closing setup.hours t ≡ b → IsServed s (entered Close i).left (closing setup.hours t s).state
+      by true is =
+          subst (λ b. IsServed s (entered Close i).left (if b then served t (Account (moment t) ∷ []) s else rests s).state) (sym is)
+          (served-by Close (Account (moment t) ∷ []) i s (served t (Account (moment t) ∷ []) s).state before (closing-commands i s tracks true is) (record { book = refl; equities = refl }))
+      by false is =
+          subst (λ b. IsServed s (entered Close i).left (if b then served t (Account (moment t) ∷ []) s else rests s).state) (sym is)
+          (served-by Close [] i s s before (closing-commands i s tracks false is) (nothing-served s))
 
   -- what leaves and what stays
   done-map : (seen : Seen) (xs : List Subscription)

@@ -95,7 +95,7 @@ ended phase cs rs i = record i {
   lines = i.lines ++ filter_map (told i.at) rs;
 }
 
-entered-is : (phase : Phase) (i : Inside) → IsBefore phase i
+pub entered-is : (phase : Phase) (i : Inside) → IsBefore phase i
     → entered phase i ≡ record i { phase = Some phase; left = commands_of phase i; over = is_over_in phase i }
 entered-is phase i before =
     ap (λ b. cond b (record i { phase = Some phase; left = commands_of phase i; over = is_over_in phase i }) i) before

@@ -1,9 +1,9 @@
 -- What a core stands for once the slice of a moment has arrived: the definition behind its selection.
-use Rattle.std.proofs.Common.{◌≡◌, ℕ, ◌+◌, List, [], ◌∷◌, ◌++◌, false, refl, ap, sym, subst, ◌∙◌}
+use Rattle.std.proofs.Common.{◌≡◌, ℕ, ◌+◌, List, [], ◌∷◌, ◌++◌, false, refl, ap, sym, subst, ◌∙◌, arith}
 use Rattle.std.specs.Prelude.{Option, Some, None, length, map, take, if◌then◌else◌, nat_lt}
 use Rattle.std.specs.List.{AllByRecursion as Each}
 use Rattle.std.specs.Option.{option_map_or}
-use Rattle.std.proofs.lemmas.List.{append-nil}
+use Rattle.std.proofs.lemmas.List.{append-nil, length-map}
 use Rattle.lean_items.specs.declared.arrival.Arrival.{Arrival}
 use Rattle.lean_items.specs.declared.coarse_row.CoarseRow.{CoarseRow}
 use Rattle.rule_strategy.specs.declared.universe.UniversePlan.{UniversePlan}
@@ -61,10 +61,15 @@ pub record Begins (universe : Option UniversePlan) (setup : Setup) (t n : ℕ) (
   pub lines : i.lines ≡ one.lines
   pub phase : i.phase ≡ None
   pub joins : Joins n (joining_all universe t i.news) new
+  pub feeds : n + length (joining_all universe t i.news) ≡ one.state.feeds
 
 none-joins : (universe : Option UniversePlan) (t n : ℕ) → Joins n (joining_all universe t []) []
 none-joins None t n = tt
 none-joins (Some universe) t n = tt
+
+none-more : (universe : Option UniversePlan) (t n : ℕ) → n + length (joining_all universe t []) ≡ n
+none-more None t n = omega arith
+none-more (Some universe) t n = omega arith
 
 -- a core that has heard its bars
 abbrev heard : Standing → List Followed → Standing
@@ -89,6 +94,7 @@ module _ (setup : Setup) (t : ℕ) (known : Known) (s : State) (ids : AreNumbere
     lines = refl;
     phase = refl;
     joins = none-joins universe t s.feeds;
+    feeds = none-more universe t s.feeds;
   }
 
   begin-chosen : (universe : UniversePlan) (symbols : List (List ℕ))
@@ -119,6 +125,7 @@ module _ (setup : Setup) (t : ℕ) (known : Known) (s : State) (ids : AreNumbere
         lines = refl;
         phase = refl;
         joins = joins-numbered universe t s.feeds news;
+        feeds = ap (λ n. s.feeds + n) (length-map news (joining universe t 0));
       })
 
   begin-some : (universe : UniversePlan)

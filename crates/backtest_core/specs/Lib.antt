@@ -3,6 +3,7 @@ pub mod Inside
 pub mod Whole
 pub mod Slices
 pub mod Made
+pub mod Served
 pub mod Following
 pub mod Watching
 pub mod Mirror

@@ -17,7 +17,10 @@ use rule_strategy::UniversePlan;
 use std::alloc::Global;
 
 impl Core {
-    ghost use Rattle.std.specs.Prelude.{◌≡◌, map, IfOk};
+    ghost use Rattle.std.specs.Prelude.{◌≡◌, ◌≤◌, length, map, IfOk};
+    ghost use Rattle.std.specs.List.{All};
+    ghost use Rattle.lean_fixed.specs.Ranges.{IsMoment};
+    ghost use Rattle.universe_state.specs.Choice.{most_active};
     ghost use Rattle.backtest_core.specs.Inside.{Inside, leaving, closed, lines_closed};
     ghost use Rattle.backtest_core.specs.Core.{StandsFor, StandsIn, GivesNoMore};
 
@@ -28,6 +31,8 @@ impl Core {
             → StandsFor self.new (closed i) (lines_closed i)
             × (changes.added.items ≡ map (λ security. security.key) (closed i).waiting)
             × (changes.removed.items ≡ map (λ f. f.security.active.feed) (leaving i))) }
+        ensures few { IfOk result (λ changes. length changes.added.items ≤ most_active) }
+        ensures starts { IfOk result (λ changes. All (λ key. IsMoment key.start.0) changes.added.items) }
         ensures numbers { GivesNoMore self.old self.new }
     {
         let removed = tell_leaving(

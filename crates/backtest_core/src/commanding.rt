@@ -165,6 +165,7 @@ impl Core {
     pub fn text(&self) -> &[u8]
         ensures between { (v : Standing) (lines : List Line) → StandsFor self.now v lines → result.now ≡ lines_bytes lines }
         ensures inside { (i : Inside) → StandsIn self.now i → result.now ≡ lines_bytes i.lines }
+        ensures kept { result.now ≡ self.now.text.items }
     {
         self.text.as_slice()
     }

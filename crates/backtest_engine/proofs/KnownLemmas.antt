@@ -23,17 +23,21 @@ use Rattle.backtest_engine.specs.declared.ending.Cut.{Cut}
 use Rattle.backtest_engine.specs.declared.ending.Cut.TheVariants as cut
 use Rattle.backtest_engine.specs.declared.ending.Ending.{Ending}
 use Rattle.backtest_engine.specs.declared.ending.Ending.TheVariants.{Whole, Refused, Faulted}
+use Rattle.backtest_engine.specs.Lists.{slice_at}
 use Rattle.backtest_engine.specs.Meaning.{Meaning, State, moment_of}
 use Rattle.backtest_engine.specs.Reports.{minutes}
 use Rattle.backtest_engine.specs.Phased.{DeskStands, GoesOn}
 use Rattle.backtest_engine.specs.Stands.{AreLists, AreCalm, IsEarlier, Stock, HasFaulted}
 use Rattle.backtest_engine.specs.Moved.{Knows, Moved, IfReadFault}
-use Rattle.backtest_engine.specs.Walked.{IsEnding, IfFault, AllFrom, NoClose, IsEnd}
+use Rattle.backtest_engine.specs.Walked.{IsEnding, IfFault, AllFrom, NoClose, IsEnd, AllMeet}
 use Rattle.backtest_engine.proofs.PhaseLemmas.{goes-none, goes-more}
-use Rattle.backtest_engine.proofs.WalkLemmas.{Comes, Came, came, cut-short, comes-next, ends-whole, ends-refused, ends-faulted}
+use Rattle.backtest_engine.proofs.WalkLemmas.{Comes, Came, meets-at, came, cut-short, comes-next, ends-whole, ends-refused, ends-faulted}
 
 abbrev pub CoreStands : Type 0 → Type 1
 CoreStands Own = (m : Meaning Own) → State Own → List FeedKey → Type 0
+
+abbrev pub CoreMeets : Type 0 → Type 1
+CoreMeets Own = (m : Meaning Own) → ℕ → List Arrival → State Own → Type 0
 
 pub nothing-ran : {Own : Type 0} (m : Meaning Own) (lists : FeedKey → List Item) (first : ℕ) (s0 : State Own) → minutes m lists first s0 0 ≡ record { lines = []; state = s0; stop = None }
 unfolding run
@@ -44,7 +48,7 @@ start-run m lists first s0 =
     let none : first - first ≡ 0 = omega arith in
     ap (λ n. minutes m lists first s0 n) none ∙ nothing-ran m lists first s0
 
-module _ {Own : Type 0} (coarse : Bool) (first last : ℕ) (desk0 : DeskStands) (pool0 : Start → Feeds → Type 0) (added0 : ℕ) (heads0 : List Arrival) (keys0 : List FeedKey) (stands0 : CoreStands Own) (told0 : Option (List ℕ)) where
+module _ {Own : Type 0} (coarse : Bool) (first last : ℕ) (desk0 : DeskStands) (pool0 : Start → Feeds → Type 0) (added0 : ℕ) (heads0 : List Arrival) (keys0 : List FeedKey) (stands0 : CoreStands Own) (meets : CoreMeets Own) (told0 : Option (List ℕ)) where
   -- whatever lists the taken items follow, and whatever book the replies are right of
   abbrev Whatever : List Command → List Reply → Feeds → Feeds
       → ((lists : FeedKey → List Item) → (m : Meaning Own) → State Own → Book → List Command → List Reply → Type 0) → Type 0
@@ -52,7 +56,7 @@ module _ {Own : Type 0} (coarse : Bool) (first last : ℕ) (desk0 : DeskStands) 
       (lists : FeedKey → List Item) (m : Meaning Own) (s0 : State Own) (b : Book) (cs : List Command) (rs : List Reply)
       → AreLists lists → AllFollow lists now → IsRight b (cs ++ ds) (rs ++ more)
       → Knows m lists coarse (stands0 m) desk0 added0 feeds heads0 first s0 b cs rs
-      → AreCalm lists (pos first) heads0 (m.active s0.own) → W lists m s0 b (cs ++ ds) (rs ++ more)
+      → AreCalm lists (pos first) heads0 (m.active s0.own) → AllMeet (meets m) m lists first last s0 → W lists m s0 b (cs ++ ds) (rs ++ more)
 
   pub record KnownOf (ds : List Command) (more : List Reply) (before : Start) (feeds : Feeds) (pool : Start → Feeds → Type 0) (added : ℕ) (heads : List Arrival) (keys : List FeedKey)
       (W : Feeds → (lists : FeedKey → List Item) → (m : Meaning Own) → State Own → Book → List Command → List Reply → Type 0) : Type 0 where
@@ -92,6 +96,7 @@ module _ {Own : Type 0} (coarse : Bool) (first last : ℕ) (desk0 : DeskStands) 
       → AreLists lists → AllFollow lists now → IsRight b (cs ++ ds) (rs ++ more)
       → Knows m lists coarse (stands0 m) desk0 added0 feeds heads0 first s0 b cs rs
       → AreCalm lists (pos first) heads0 (m.active s0.own)
+      → AllMeet (meets m) m lists first last s0
       → IsEnd m lists first last s0 coarse now (stands m) (after b (cs ++ ds)) told0 told result))
 
   -- what a moment says
@@ -105,6 +110,7 @@ module _ {Own : Type 0} (coarse : Bool) (first last : ℕ) (desk0 : DeskStands) 
       → AreLists lists → AllFollow lists now → IsRight b (cs ++ ds) (rs ++ more) → at.0 ≡ pos t
       → Knows m lists coarse (stands m) desk added feeds heads t s b cs rs
       → AreCalm lists (pos t) heads (m.active s.own)
+      → meets m t (slice_at lists (pos t) (m.active s.own)) s
       → Moved m lists coarse (new_stands m) new_added now new t s (after b (cs ++ ds)) told told1 result))
 
   pub known-first : Known desk0 pool0 added0 heads0 keys0 stands0 first told0
@@ -116,7 +122,7 @@ module _ {Own : Type 0} (coarse : Bool) (first last : ℕ) (desk0 : DeskStands) 
       now = feeds;
       stock = stock;
       earlier = λ lists follow. follow;
-      comes = λ lists m s0 b cs rs are follow right knows calm. record {
+      comes = λ lists m s0 b cs rs are follow right knows calm met. record {
         state = s0;
         bytes = [];
         ran = start-run m lists first s0;
@@ -153,10 +159,10 @@ module _ {Own : Type 0} (coarse : Bool) (first last : ℕ) (desk0 : DeskStands) 
             now = now;
             stock = stock1;
             earlier = λ lists follow. o.earlier lists (earlier lists follow);
-            comes = λ lists m s0 b cs rs are follow right knows calm.
+            comes = λ lists m s0 b cs rs are follow right knows calm met.
                 (let r = inner b cs k.ds es rs k.more others right in
-                let c = o.comes lists m s0 b cs rs are (earlier lists follow) (right-before b (cs ++ k.ds) es (rs ++ k.more) others r) knows calm in
-                let g = moved lists m at c.state b (cs ++ k.ds) (rs ++ k.more) are follow r is c.knows c.calm in
+                let c = o.comes lists m s0 b cs rs are (earlier lists follow) (right-before b (cs ++ k.ds) es (rs ++ k.more) others r) knows calm met in
+                let g = moved lists m at c.state b (cs ++ k.ds) (rs ++ k.more) are follow r is c.knows c.calm (meets-at m lists coarse first last s0 (meets m) met at c.bytes c.state low high c.ran) in
                 let done = came m lists coarse first last s0 (stands m) (new_stands m) desk new_desk added new_added o.now now heads new at b (cs ++ k.ds) es (rs ++ k.more) others told0 told told1 low c
                 (goes b (cs ++ k.ds) (rs ++ k.more) c.knows.desk_is) g in
                 subst (λ xs. CameAt new_desk new_added new new_stands at told1 now lists m s0 b xs (rs ++ (k.more ++ others))) (append_assoc cs k.ds es)
@@ -179,10 +185,10 @@ module _ {Own : Type 0} (coarse : Bool) (first last : ℕ) (desk0 : DeskStands) 
             stand,
             (λ lists follow. o.earlier lists (earlier lists follow)),
             fault-of c (HasFaulted now) fault,
-            λ lists m s0 b cs rs are follow right knows calm.
+            λ lists m s0 b cs rs are follow right knows calm met.
                 (let r = inner b cs k.ds es rs k.more others right in
-                let w = o.comes lists m s0 b cs rs are (earlier lists follow) (right-before b (cs ++ k.ds) es (rs ++ k.more) others r) knows calm in
-                let g = moved lists m at w.state b (cs ++ k.ds) (rs ++ k.more) are follow r is w.knows w.calm in
+                let w = o.comes lists m s0 b cs rs are (earlier lists follow) (right-before b (cs ++ k.ds) es (rs ++ k.more) others r) knows calm met in
+                let g = moved lists m at w.state b (cs ++ k.ds) (rs ++ k.more) are follow r is w.knows w.calm (meets-at m lists coarse first last s0 (meets m) met at w.bytes w.state low high w.ran) in
                 subst (λ xs. IsEnd m lists first last s0 coarse now (new_stands m) (after b xs) told0 told1 (Err c)) (append_assoc cs k.ds es)
                 (cut-short m lists coarse first last s0 (stands m) (new_stands m) desk added new_added o.now now heads new at b (cs ++ k.ds) (rs ++ k.more) (after b ((cs ++ k.ds) ++ es)) told0 told told1 c low high w g)),
           )),
@@ -194,7 +200,7 @@ module _ {Own : Type 0} (coarse : Bool) (first last : ℕ) (desk0 : DeskStands) 
         fault-of cut.ReadFault P h = h
         fault-of (cut.Limited limit) P h = tt
 
-    module _ (idle : (m : Meaning Own) (s : State Own) (t : ℕ) → stands m s [] → m.is_close t ≡ false → moment_of m t [] s ≡ rests s)
+    module _ (idle : (m : Meaning Own) (s : State Own) (t : ℕ) → stands m s [] → meets m t [] s → m.is_close t ≡ false → moment_of m t [] s ≡ rests s)
         (k : KnownBehind desk pool added heads keys stands at told) where
       abbrev Closes : ℕ → Type 0
       Closes until = (m : Meaning Own) (s : State Own) → stands m s [] → NoClose m.is_close at until
@@ -211,9 +217,9 @@ module _ {Own : Type 0} (coarse : Bool) (first last : ℕ) (desk0 : DeskStands) 
               now = o.now;
               stock = o.stock;
               earlier = o.earlier;
-              comes = λ lists m s0 b cs rs are follow right knows calm.
-                  comes-next m lists coarse first last s0 are (stands m) desk added o.now heads at b (cs ++ k.ds) (rs ++ k.more) told0 told low high follow (idle m)
-                  (o.comes lists m s0 b cs rs are follow right knows calm) next past within none from (closes m (o.comes lists m s0 b cs rs are follow right knows calm).state);
+              comes = λ lists m s0 b cs rs are follow right knows calm met.
+                  comes-next m lists coarse first last s0 are (stands m) (meets m) met desk added o.now heads at b (cs ++ k.ds) (rs ++ k.more) told0 told low high follow (idle m)
+                  (o.comes lists m s0 b cs rs are follow right knows calm met) next past within none from (closes m (o.comes lists m s0 b cs rs are follow right knows calm met).state);
             });
       }
 
@@ -229,9 +235,9 @@ module _ {Own : Type 0} (coarse : Bool) (first last : ℕ) (desk0 : DeskStands) 
               o.stock.stand,
               o.earlier,
               tt,
-              λ lists m s0 b cs rs are follow right knows calm.
-                  ends-whole m lists coarse first last s0 are (stands m) desk added o.now heads at b (cs ++ k.ds) (rs ++ k.more) told0 told low high follow (idle m)
-                  (o.comes lists m s0 b cs rs are follow right knows calm) none from (closes m (o.comes lists m s0 b cs rs are follow right knows calm).state),
+              λ lists m s0 b cs rs are follow right knows calm met.
+                  ends-whole m lists coarse first last s0 are (stands m) (meets m) met desk added o.now heads at b (cs ++ k.ds) (rs ++ k.more) told0 told low high follow (idle m)
+                  (o.comes lists m s0 b cs rs are follow right knows calm met) none from (closes m (o.comes lists m s0 b cs rs are follow right knows calm met).state),
             )),
       )
 
@@ -252,9 +258,9 @@ module _ {Own : Type 0} (coarse : Bool) (first last : ℕ) (desk0 : DeskStands) 
               o.stock.stand,
               o.earlier,
               tt,
-              λ lists m s0 b cs rs are follow right knows calm.
-                  ends-refused m lists coarse first last s0 are (stands m) desk added o.now heads at b (cs ++ k.ds) (rs ++ k.more) told0 told low high follow (idle m)
-                  (o.comes lists m s0 b cs rs are follow right knows calm) a key bad keys o.stock.keys_are found line named,
+              λ lists m s0 b cs rs are follow right knows calm met.
+                  ends-refused m lists coarse first last s0 are (stands m) (meets m) met desk added o.now heads at b (cs ++ k.ds) (rs ++ k.more) told0 told low high follow (idle m)
+                  (o.comes lists m s0 b cs rs are follow right knows calm met) a key bad keys o.stock.keys_are found line named,
             )),
       )
       known-stopped a Faulted found is = (
@@ -267,8 +273,8 @@ module _ {Own : Type 0} (coarse : Bool) (first last : ℕ) (desk0 : DeskStands) 
               o.stock.stand,
               o.earlier,
               faulted-head o.now a o.stock.taken found is,
-              λ lists m s0 b cs rs are follow right knows calm.
-                  ends-faulted m lists coarse first last s0 are (stands m) desk added o.now heads at b (cs ++ k.ds) (rs ++ k.more) told0 told low high follow (idle m)
-                  (o.comes lists m s0 b cs rs are follow right knows calm) a found is,
+              λ lists m s0 b cs rs are follow right knows calm met.
+                  ends-faulted m lists coarse first last s0 are (stands m) (meets m) met desk added o.now heads at b (cs ++ k.ds) (rs ++ k.more) told0 told low high follow (idle m)
+                  (o.comes lists m s0 b cs rs are follow right knows calm met) a found is,
             )),
       )

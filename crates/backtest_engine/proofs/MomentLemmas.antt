@@ -158,13 +158,13 @@ module _ {Own : Type 0} (m : Meaning Own) (t : ℕ) (slice : List Arrival) (s : 
 
 -- ---- whatever the desk replies
 
-module _ {Own : Type 0} (at : Moment) (slice : List Arrival) (start : DeskStands) (stands : (m : Meaning Own) → State Own → List FeedKey → Type 0) where
+module _ {Own : Type 0} (at : Moment) (slice : List Arrival) (start : DeskStands) (stands : (m : Meaning Own) → State Own → List FeedKey → Type 0) (meets : (m : Meaning Own) → ℕ → List Arrival → State Own → Type 0) where
   -- how far a moment has come
   pub record Through (p : Phase) (desk : DeskStands) (plays : (m : Meaning Own) → PlaysTurns m) : Type 0 where
     pub ds : List Command
     pub more : List Reply
     pub goes : GoesOn start desk ds more
-    pub stage : (m : Meaning Own) (s : State Own) (t : ℕ) (b : Book) (cs : List Command) (rs : List Reply) → at.0 ≡ pos t → stands m s [] → start b cs rs → s.book ≡ after b cs
+    pub stage : (m : Meaning Own) (s : State Own) (t : ℕ) (b : Book) (cs : List Command) (rs : List Reply) → at.0 ≡ pos t → stands m s [] → meets m t slice s → start b cs rs → s.book ≡ after b cs
         → IsRight b (cs ++ ds) (rs ++ more) → Stage m t slice s p desk (plays m) b (cs ++ ds) (rs ++ more)
 
   right-inner : (b : Book) (cs ds es : List Command) (rs more others : List Reply) → IsRight b (cs ++ (ds ++ es)) (rs ++ (more ++ others)) → IsRight b ((cs ++ ds) ++ es) ((rs ++ more) ++ others)
@@ -172,12 +172,12 @@ module _ {Own : Type 0} (at : Moment) (slice : List Arrival) (start : DeskStands
       subst (λ xs. IsRight b xs ((rs ++ more) ++ others)) (sym (append_assoc cs ds es)) (subst (λ xs. IsRight b (cs ++ (ds ++ es)) xs) (sym (append_assoc rs more others)) right)
 
   pub through-first : (plays : (m : Meaning Own) → PlaysTurns m) (text : List ℕ)
-      → ((m : Meaning Own) (s : State Own) (t : ℕ) → stands m s [] → at.0 ≡ pos t → Arrives m (plays m) text t slice s (Ok tt)) → Through Prices start plays
+      → ((m : Meaning Own) (s : State Own) (t : ℕ) → stands m s [] → meets m t slice s → at.0 ≡ pos t → Arrives m (plays m) text t slice s (Ok tt)) → Through Prices start plays
   through-first plays text arrives = record {
     ds = [];
     more = [];
     goes = goes-none start;
-    stage = λ m s t b cs rs is core desk book right. stage-first m t slice s start (plays m) text b cs rs desk book (arrives m s t core is);
+    stage = λ m s t b cs rs is core met desk book right. stage-first m t slice s start (plays m) text b cs rs desk book (arrives m s t core met is);
   }
 
   -- what a phase says
@@ -193,9 +193,9 @@ module _ {Own : Type 0} (at : Moment) (slice : List Arrival) (start : DeskStands
     ds = g.ds ++ es;
     more = g.more ++ others;
     goes = goes-more start desk new g.ds es g.more others g.goes goes;
-    stage = λ m s t b cs rs is core desk_is book right.
+    stage = λ m s t b cs rs is core met desk_is book right.
         (let inner = right-inner b cs g.ds es rs g.more others right in
-        let st = g.stage m s t b cs rs is core desk_is book (right-before b (cs ++ g.ds) es (rs ++ g.more) others inner) in
+        let st = g.stage m s t b cs rs is core met desk_is book (right-before b (cs ++ g.ds) es (rs ++ g.more) others inner) in
         let phased = says m (turn_at m t slice s p st.now st.text) b (cs ++ g.ds) (rs ++ g.more) st.faces refl inner in
         let next = stage-next m t slice s p desk new (plays m) (after_plays m) text b (cs ++ g.ds) es (rs ++ g.more) others has (passes m) st (goes b (cs ++ g.ds) (rs ++ g.more) st.faces.stands) phased in
         subst (λ xs. Stage m t slice s (next_phase p) new (after_plays m) b xs (rs ++ (g.more ++ others))) (append_assoc cs g.ds es)
@@ -207,13 +207,13 @@ module _ {Own : Type 0} (at : Moment) (slice : List Arrival) (start : DeskStands
   EndsSo new after_stands text result =
       (ds : List Command) × (more : List Reply) × GoesOn start new ds more
       × ((m : Meaning Own) (s : State Own) (t : ℕ) (b : Book) (cs : List Command) (rs : List Reply)
-      → at.0 ≡ pos t → stands m s [] → start b cs rs → s.book ≡ after b cs
+      → at.0 ≡ pos t → stands m s [] → meets m t slice s → start b cs rs → s.book ≡ after b cs
       → IsRight b (cs ++ ds) (rs ++ more) → IsPlayed m (after_stands m) text t slice s (after b (cs ++ ds)) result)
 
   pub ends-first : (plays : (m : Meaning Own) → PlaysTurns m) (after_stands : (m : Meaning Own) → State Own → List FeedKey → Type 0) (text : List ℕ) (stop : Stop)
-      → ((m : Meaning Own) (s : State Own) (t : ℕ) → stands m s [] → at.0 ≡ pos t → Arrives m (plays m) text t slice s (Err stop)) → EndsSo start after_stands text (Err stop)
+      → ((m : Meaning Own) (s : State Own) (t : ℕ) → stands m s [] → meets m t slice s → at.0 ≡ pos t → Arrives m (plays m) text t slice s (Err stop)) → EndsSo start after_stands text (Err stop)
   ends-first plays after_stands text stop arrives =
-      ([], [], goes-none start, λ m s t b cs rs is core desk book right. arrival-limit m t slice s (plays m) (after_stands m) text (after b (cs ++ [])) stop (arrives m s t core is))
+      ([], [], goes-none start, λ m s t b cs rs is core met desk book right. arrival-limit m t slice s (plays m) (after_stands m) text (after b (cs ++ [])) stop (arrives m s t core met is))
 
   pub ends-phase : (p : Phase) (desk new : DeskStands) (plays after_plays : (m : Meaning Own) → PlaysTurns m) (after_stands : (m : Meaning Own) → State Own → List FeedKey → Type 0) (text : List ℕ) (es : List Command) (others : List Reply) (stop : Stop)
       → Through p desk plays → GoesOn desk new es others → SaysPhase p desk new plays after_plays text es others (Err stop) → EndsSo new after_stands text (Err stop)
@@ -221,9 +221,9 @@ module _ {Own : Type 0} (at : Moment) (slice : List Arrival) (start : DeskStands
     g.ds ++ es,
     g.more ++ others,
     goes-more start desk new g.ds es g.more others g.goes goes,
-    λ m s t b cs rs is core desk_is book right.
+    λ m s t b cs rs is core met desk_is book right.
         (let inner = right-inner b cs g.ds es rs g.more others right in
-        let st = g.stage m s t b cs rs is core desk_is book (right-before b (cs ++ g.ds) es (rs ++ g.more) others inner) in
+        let st = g.stage m s t b cs rs is core met desk_is book (right-before b (cs ++ g.ds) es (rs ++ g.more) others inner) in
         let phased = says m (turn_at m t slice s p st.now st.text) b (cs ++ g.ds) (rs ++ g.more) st.faces refl inner in
         stage-limit m t slice s p desk (plays m) (after_plays m) (after_stands m) text (after b (cs ++ (g.ds ++ es))) b (cs ++ g.ds) es (rs ++ g.more) others stop st phased),
   )
@@ -232,7 +232,7 @@ module _ {Own : Type 0} (at : Moment) (slice : List Arrival) (start : DeskStands
   pub ends-unclosed : (p : Phase) (desk new : DeskStands) (plays : (m : Meaning Own) → PlaysTurns m) (after_stands : (m : Meaning Own) → State Own → List FeedKey → Type 0) (text : List ℕ) (es : List Command) (others : List Reply)
       → Through p desk plays → GoesOn desk new es others → EndsSo new after_stands text (Err NoMemory)
   ends-unclosed p desk new plays after_stands text es others g goes =
-      (g.ds ++ es, g.more ++ others, goes-more start desk new g.ds es g.more others g.goes goes, λ m s t b cs rs is core desk_is book right. tt)
+      (g.ds ++ es, g.more ++ others, goes-more start desk new g.ds es g.more others g.goes goes, λ m s t b cs rs is core met desk_is book right. tt)
 
   pub ends-closed : (desk new : DeskStands) (plays after_plays : (m : Meaning Own) → PlaysTurns m) (after_stands : (m : Meaning Own) → State Own → List FeedKey → Type 0) (text0 text : List ℕ) (es : List Command) (others : List Reply) (changes : Changes)
       → Through Close desk plays → GoesOn desk new es others → SaysPhase Close desk new plays after_plays text0 es others (Ok tt)
@@ -243,9 +243,9 @@ module _ {Own : Type 0} (at : Moment) (slice : List Arrival) (start : DeskStands
     g.ds ++ es,
     g.more ++ others,
     goes-more start desk new g.ds es g.more others g.goes goes,
-    λ m s t b cs rs is core desk_is book right.
+    λ m s t b cs rs is core met desk_is book right.
         (let inner = right-inner b cs g.ds es rs g.more others right in
-        let st = g.stage m s t b cs rs is core desk_is book (right-before b (cs ++ g.ds) es (rs ++ g.more) others inner) in
+        let st = g.stage m s t b cs rs is core met desk_is book (right-before b (cs ++ g.ds) es (rs ++ g.more) others inner) in
         let turn = turn_at m t slice s Close st.now st.text in
         let phased = says m turn b (cs ++ g.ds) (rs ++ g.more) st.faces refl inner in
         let whole = stage-closed m t slice s desk (plays m) (after_plays m) (after_stands m) text0 text b (cs ++ g.ds) es (rs ++ g.more) others changes.added.items changes.removed.items st phased

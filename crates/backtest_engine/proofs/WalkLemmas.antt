@@ -1,5 +1,5 @@
 -- From one moment to the next at which anything can happen, whatever was taken and heard.
-use Rattle.std.proofs.Common.{◌≡◌, ℕ, ◌+◌, ◌-◌, ◌<◌, ◌≤◌, Bool, false, ℤ, pos, List, [], ◌∷◌, ◌++◌, Option, Some, None, refl, sym, ap, ◌∙◌, subst, arith, append_assoc}
+use Rattle.std.proofs.Common.{◌≡◌, ℕ, zero, suc, ◌+◌, ◌-◌, ◌<◌, ◌≤◌, Bool, false, ℤ, pos, List, [], ◌∷◌, ◌++◌, Option, Some, None, refl, sym, ap, ◌∙◌, subst, arith, append_assoc, append-nil}
 use Rattle.std.specs.Prelude.{find, slice_get, unwrap_or, Ok, Err}
 use Rattle.std.specs.List.{All}
 use Rattle.std.proofs.lemmas.Int.{ints}
@@ -16,7 +16,7 @@ use Rattle.lean_orders.specs.declared.desk.Reply.{Reply}
 use Rattle.clock_book.specs.Books.{Book}
 use Rattle.clock_book.specs.Handled.{after}
 use Rattle.clock_steps.specs.Runs.{Ran, rests, behind, IsStill}
-use Rattle.clock_steps.proofs.RunLemmas.{run-next, run-end, run-stopped, run-front}
+use Rattle.clock_steps.proofs.RunLemmas.{run-next, run-stopped, run-front}
 use Rattle.frontier_sync.specs.Heads.{stops, EndsFrom}
 use Rattle.frontier_sync.proofs.StandLemmas.{none-found}
 use Rattle.report_pages.specs.Printed.{IsTaken, IsFront}
@@ -30,7 +30,7 @@ use Rattle.backtest_engine.specs.Reports.{Halt, halt, limited, malformed, halted
 use Rattle.backtest_engine.specs.Phased.{DeskStands}
 use Rattle.backtest_engine.specs.Stands.{AreLists, AreAt, AreCalm, HasFile}
 use Rattle.backtest_engine.specs.Moved.{moment_at, Knows, Goes, Moved}
-use Rattle.backtest_engine.specs.Walked.{AllFrom, NoClose, IsEnd}
+use Rattle.backtest_engine.specs.Walked.{AllFrom, NoClose, IsEnd, AllMeet}
 use Rattle.backtest_engine.proofs.HeadLemmas.{all-later, all-quiet, calm-heads, none-refused, first-refused}
 
 -- ---- what was written
@@ -103,6 +103,17 @@ module _ {Own : Type 0} (m : Meaning Own) (lists : FeedKey → List Item) (coars
       let still : IsStill step s (first + n) (first + n + 0) = λ t lo hi. absurd (omega (arith, lo, hi)) in
       ap so (sym count) ∙ run-next step n 0 first s0 s bytes ran still ∙ ap (λ t. behind bytes (step t s)) to ∙ ap (behind bytes) (minute-is at s)
 
+  -- what ends at the next moment is taken
+  pub meets-at : (meets : ℕ → List Arrival → State Own → Type 0) → AllMeet meets m lists first last s0
+      → (at : ℕ) (bytes : List ℕ) (s : State Own) → first ≤ at → at ≤ last → so (at - first) ≡ ran_so bytes s None
+      → meets at (slice_at lists (pos at) (m.active s.own)) s
+  meets-at meets all at bytes s low high ran =
+      let n = at - first in
+      let to : first + n ≡ at = omega (arith, low) in
+      let met = all n (omega (arith, low, high)) (ap (λ (r : Ran (State Own) ℕ Halt). r.stop) ran) in
+      subst (λ t. meets t (slice_at lists (pos t) (m.active s.own)) s) to
+      (subst (λ (r : Ran (State Own) ℕ Halt). meets (first + n) (slice_at lists (pos (first + n)) (m.active r.state.own)) r.state) ran met)
+
   pub came : (stands new_stands : State Own → List FeedKey → Type 0) (desk new_desk : DeskStands) (added new_added : ℕ) (now later : Feeds) (heads new : List Arrival) (at : ℕ) (b : Book) (cs ds : List Command) (rs more : List Reply) (told0 told told1 : Option (List ℕ))
       → first ≤ at → (c : Comes stands desk added now heads at b cs rs told0 told) → new_desk b (cs ++ ds) (rs ++ more)
       → Goes m lists coarse new_stands new_added later new at c.state (after b (cs ++ ds)) told told1
@@ -165,39 +176,54 @@ module _ {Own : Type 0} (m : Meaning Own) (lists : FeedKey → List Item) (coars
 
   -- ---- behind a moment at which no head stops
 
-  module _ (are : AreLists lists) (stands : State Own → List FeedKey → Type 0) (desk : DeskStands) (added : ℕ) (now : Feeds) (heads : List Arrival) (at : ℕ) (b : Book) (cs : List Command) (rs : List Reply) (told0 told : Option (List ℕ))
+  module _ (are : AreLists lists) (stands : State Own → List FeedKey → Type 0) (meets : ℕ → List Arrival → State Own → Type 0) (all : AllMeet meets m lists first last s0) (desk : DeskStands) (added : ℕ) (now : Feeds) (heads : List Arrival) (at : ℕ) (b : Book) (cs : List Command) (rs : List Reply) (told0 told : Option (List ℕ))
       (low : first ≤ at) (high : at ≤ last) (follow : AllFollow lists now)
-      (idle : (s : State Own) (t : ℕ) → stands s [] → m.is_close t ≡ false → moment_of m t [] s ≡ rests s)
+      (idle : (s : State Own) (t : ℕ) → stands s [] → meets t [] s → m.is_close t ≡ false → moment_of m t [] s ≡ rests s)
       (c : Came stands desk added now heads at b cs rs told0 told) where
     calm-ran : All (λ a. stops a.item ≡ false) heads → so (at + 1 - first) ≡ ran_so c.bytes c.state None
     calm-ran calm = c.ran ∙ ap (ran_so c.bytes c.state) (no-refusal _ (none-refused lists are coarse (pos at) now heads (m.active c.state.own) follow c.knows.at calm))
 
-    still-until : (until : ℕ) → All (λ a. stops a.item ≡ false) heads → AllFrom until heads → NoClose m.is_close at until → IsStill step c.state (at + 1) until
-    still-until until calm from none u lo hi =
+    -- at a moment up to which nothing has happened nothing happens
+    quiet-at : (until : ℕ) → until ≤ last + 1 → All (λ a. stops a.item ≡ false) heads → AllFrom until heads → NoClose m.is_close at until
+        → (u : ℕ) → at + 1 ≤ u → u < until → so (u - first) ≡ ran_so c.bytes c.state None
+        → halted m lists u (moment_at m lists coarse u c.state) ≡ rests c.state
+    quiet-at until within calm from none u lo hi so_far =
         let active = m.active c.state.own in
         let nothing : slice_at lists (pos u) active ≡ []
         = all-quiet lists are coarse (pos (at + 1)) (pos u) (pos until) now heads active follow c.knows.at calm from (omega (arith, ints, lo)) (omega (arith, ints, hi)) in
         let later = all-later lists are coarse (pos (at + 1)) (pos (u + 1)) now heads active (omega (arith, ints, lo)) c.knows.at (earlier-from (u + 1) until heads (omega (arith, hi)) from) in
         let none_due : refused lists (pos u) active ≡ None = none-refused lists are coarse (pos u) now heads active follow later calm in
-        let quiet : moment_at m lists coarse u c.state ≡ rests c.state = ap (λ xs. moment_of m u xs c.state) nothing ∙ idle c.state u c.knows.core_is (none u (omega (arith, lo)) hi) in
-        minute-is u c.state ∙ ap (halted m lists u) quiet ∙ ap (λ z. ran_so [] c.state z) (no-refusal _ none_due)
+        let met : meets u [] c.state
+        = subst (λ xs. meets u xs c.state) nothing (meets-at meets all u c.bytes c.state (omega (arith, low, lo)) (omega (arith, within, hi)) so_far) in
+        let quiet : moment_at m lists coarse u c.state ≡ rests c.state
+        = ap (λ xs. moment_of m u xs c.state) nothing ∙ idle c.state u c.knows.core_is met (none u (omega (arith, lo)) hi) in
+        ap (halted m lists u) quiet ∙ ap (λ z. ran_so [] c.state z) (no-refusal _ none_due)
+
+    -- the minutes behind it, one after the other
+    ran-until : (until : ℕ) → until ≤ last + 1 → All (λ a. stops a.item ≡ false) heads → AllFrom until heads → NoClose m.is_close at until
+        → (gap : ℕ) → at + 1 + gap ≤ until → so (at + 1 + gap - first) ≡ ran_so c.bytes c.state None
+    ran-until until within calm from none zero h =
+        let start : at + 1 + zero - first ≡ at + 1 - first = omega arith in
+        ap so start ∙ calm-ran calm
+    ran-until until within calm from none (suc gap) h =
+        let u = at + 1 + gap in
+        let so_far = ran-until until within calm from none gap (omega (arith, h)) in
+        let next : at + 1 + suc gap - first ≡ u + 1 - first = omega arith in
+        ap so next ∙ ran-next u c.bytes c.state (omega (arith, low)) so_far
+        ∙ ap (behind c.bytes) (quiet-at until within calm from none u (omega arith) (omega (arith, h)) so_far)
+        ∙ ap (λ xs. ran_so xs c.state None) (append-nil c.bytes)
 
     pub comes-next : (next : ℕ) → at < next → next ≤ last → find (λ (a : Arrival). stops a.item) heads ≡ None → (AllFrom (at + 1) heads → AllFrom next heads) → (stands c.state [] → NoClose m.is_close at next)
         → Comes stands desk added now heads next b cs rs told0 told
     comes-next next past within none from closes =
         let calm = none-found (λ (a : Arrival). stops a.item) heads none in
         let ends = from (at-from coarse (at + 1) now heads (m.active c.state.own) c.knows.at) in
-        let n = at + 1 - first in
         let gap = next - at - 1 in
-        let count : n + gap ≡ next - first = omega (arith, low, past) in
-        let start : first + n ≡ at + 1 = omega (arith, low) in
-        let to : first + n + gap ≡ next = omega (arith, low, past) in
-        let quiet = still-until next calm ends (closes c.knows.core_is) in
-        let still : IsStill step c.state (first + n) (first + n + gap) = λ u lo hi. quiet u (omega (arith, lo, start)) (omega (arith, hi, to)) in
+        let count : next - first ≡ at + 1 + gap - first = omega (arith, past) in
         record {
           state = c.state;
           bytes = c.bytes;
-          ran = ap so (sym count) ∙ run-end step n gap first s0 c.state c.bytes (calm-ran calm) still;
+          ran = ap so count ∙ ran-until next (omega (arith, within)) calm ends (closes c.knows.core_is) gap (omega (arith, past));
           knows = record {
             core_is = c.knows.core_is;
             desk_is = c.knows.desk_is;
@@ -214,14 +240,10 @@ module _ {Own : Type 0} (m : Meaning Own) (lists : FeedKey → List Item) (coars
     ends-whole none from closes =
         let calm = none-found (λ (a : Arrival). stops a.item) heads none in
         let ends = from (at-from coarse (at + 1) now heads (m.active c.state.own) c.knows.at) in
-        let n = at + 1 - first in
         let gap = last - at in
-        let count : n + gap ≡ last + 1 - first = omega (arith, low, high) in
-        let start : first + n ≡ at + 1 = omega (arith, low) in
-        let to : first + n + gap ≡ last + 1 = omega (arith, low, high) in
-        let quiet = still-until (last + 1) calm ends (closes c.knows.core_is) in
-        let still : IsStill step c.state (first + n) (first + n + gap) = λ u lo hi. quiet u (omega (arith, lo, start)) (omega (arith, hi, to)) in
-        let ran : whole m lists first last s0 ≡ ran_so c.bytes c.state None = ap so (sym count) ∙ run-end step n gap first s0 c.state c.bytes (calm-ran calm) still in (
+        let count : last + 1 - first ≡ at + 1 + gap - first = omega (arith, high) in
+        let ran : whole m lists first last s0 ≡ ran_so c.bytes c.state None
+        = ap so count ∙ ran-until (last + 1) (omega arith) calm ends (closes c.knows.core_is) gap (omega (arith, high)) in (
           ap (λ (r : Ran (State Own) ℕ Halt). r.stop) ran,
           subst (λ (r : Ran (State Own) ℕ Halt). stands r.state []) (sym ran) c.knows.core_is,
           ap (λ (r : Ran (State Own) ℕ Halt). r.state.book) ran ∙ c.knows.book,

@@ -10,3 +10,17 @@ pub mod Moved
 pub mod Walked
 pub mod Reported
 pub mod Last
+pub mod Algorithms
+pub mod Ranged
+pub mod Meets
+pub mod Playing
+pub mod BookLemmas
+pub mod IdleLemmas
+pub mod InsideLemmas
+pub mod RestLemmas
+pub mod ReachLemmas
+pub mod PlayingLaws
+pub mod Tells
+pub mod Feeds
+pub mod Backtests
+pub mod Named

@@ -1,5 +1,5 @@
 -- A moment under way: its phases as turns of a strategy, and what each call of the strategy says of them.
-use Rattle.std.specs.Prelude.{◌≡◌, ℕ, ◌+◌, ◌<◌, ◌≤◌, ◌==◌, false, not, pos, Bool, List, ◌++◌, ◌∷◌, [], length, fold, Option, Some, None, Result, Ok, Err}
+use Rattle.std.specs.Prelude.{◌≡◌, ℕ, ◌+◌, ◌^◌, ◌<◌, ◌≤◌, ◌==◌, false, not, pos, Bool, List, ◌++◌, ◌∷◌, [], length, fold, Option, Some, None, Result, Ok, Err}
 use Rattle.std.specs.List.{All, filter}
 use Rattle.lean_fixed.specs.declared.time.Moment.{Moment}
 use Rattle.lean_orders.specs.declared.desk.Command.{Command}
@@ -46,6 +46,11 @@ abbrev pub IsNextClose : (ℕ → Bool) → ℕ → ℕ → Option Moment → Ty
 IsNextClose is_close t until None = (u : ℕ) → t < u → u ≤ until → is_close u ≡ false
 IsNextClose is_close t until (Some at) =
     (next : ℕ) × (at.0 ≡ pos next) × (t < next) × (next ≤ until) × ((u : ℕ) → t < u → u < next → is_close u ≡ false)
+
+-- No more commands come of a moment, and no more feeds are added: 1,000,000 requests and 258 other commands are fewer, and so are
+-- 256 feeds.
+abbrev pub most_of_moment : ℕ
+most_of_moment = 2 ^ 20
 
 -- ---- turns
 

@@ -16,6 +16,7 @@ use Rattle.backtest_engine.specs.declared.ending.Cut.TheVariants as cut
 use Rattle.backtest_engine.specs.declared.ending.Ending.{Ending}
 use Rattle.backtest_engine.specs.declared.ending.Ending.TheVariants.{Whole, Refused, Faulted}
 use Rattle.backtest_engine.specs.Meaning.{Meaning, State}
+use Rattle.backtest_engine.specs.Lists.{slice_at}
 use Rattle.backtest_engine.specs.Reports.{limited, malformed, minutes, whole}
 use Rattle.backtest_engine.specs.Stands.{AreAt, CoarseFailed}
 
@@ -72,3 +73,11 @@ module _ {Own : Type 0} (m : Meaning Own) (lists : FeedKey → List Item) (first
   IsEnd coarse now stands book told0 told (Err cut.NoMemory) = IsFront told0 told (whole m lists first last s0).lines
   IsEnd coarse now stands book told0 told (Err cut.WriteFault) = IsFront told0 told (whole m lists first last s0).lines
   IsEnd coarse now stands book told0 told (Err cut.ReadFault) = IsCut told0 told × CoarseFailed coarse now
+
+-- a strategy takes what ends at each moment of a run that is not halted before it
+abbrev pub AllMeet : {Own : Type 0} → (ℕ → List Arrival → State Own → Type 0) → Meaning Own → (FeedKey → List Item) → ℕ → ℕ → State Own → Type 0
+AllMeet meets m lists first last s0 =
+    (count : ℕ) → count ≤ last - first → (minutes m lists first s0 count).stop ≡ None
+    → meets (first + count)
+    (slice_at lists (pos (first + count)) (m.active (minutes m lists first s0 count).state.own))
+    (minutes m lists first s0 count).state

@@ -15,7 +15,7 @@ ghost use Rattle.frontier_sync.specs.Stays.{Stays};
 ghost use Rattle.backtest_engine.specs.Meaning.{Meaning, State};
 ghost use Rattle.backtest_engine.specs.Phased.{GoesOn};
 ghost use Rattle.backtest_engine.specs.Stands.{AreLists, HasFaulted};
-ghost use Rattle.backtest_engine.specs.Walked.{IfFault, IsEnd};
+ghost use Rattle.backtest_engine.specs.Walked.{IfFault, IsEnd, AllMeet};
 ghost use Rattle.backtest_engine.specs.Reported.{IsOpening, IsReport};
 
 use crate::ended::Ended;
@@ -31,8 +31,9 @@ use lean_items::{FeedKey, Pool};
 use order_desk::Desk;
 use std::alloc::Global;
 
-/// Runs a strategy over the feeds of a new pool and a new desk, from the first minute to the last one, and writes its report. The
-/// feeds of the opening keys, at most 1,000, are added before anything is taken. Where `coarse` says so, the first of them is the
+/// Runs a strategy over the feeds of a new pool and a new desk, from the first minute to the last one, and writes its report.
+/// Minutes are counted since 1970-01-01; the last one is no later than 24:00 of 2200-01-01, minute 120,970,080. The feeds of the
+/// opening keys, at most 1,000, are added before anything is taken. Where `coarse` says so, the first of them is the
 /// coarse feed, whose first item is read before the first moment. On every path the pool and the desk are finished.
 ///
 /// `Ended::BadRow`: the report names the malformed line of the least active feed that has one which is due, behind the lines of
@@ -40,7 +41,7 @@ use std::alloc::Global;
 /// active feed whose next item is a malformed line or a failed read has a failed read, or a read of the coarse feed failed while
 /// its rows were taken; the lines of whole moments were written. `Ended::WriteFault`: a write failed. `Ended::NoMemory`: there is
 /// no memory. After these two a front of the report was written.
-pub fn run<C: Strategy, P: Pool, D: Desk, S: Sink>(
+pub fn run_strategy<C: Strategy, P: Pool, D: Desk, S: Sink>(
     alloc: Global,
     core: &mut C,
     pool: &mut P,
@@ -52,7 +53,7 @@ pub fn run<C: Strategy, P: Pool, D: Desk, S: Sink>(
     out: &mut S,
 ) -> Ended
     requires order { first ≤ last }
-    requires last { last ≤ 121000000 }
+    requires last { last ≤ 120970080 }
     requires new { P.added pool.old ≡ 0 }
     requires fed { D.starved desk ≡ false }
     requires submitted { D.submitted desk ≡ 0 }
@@ -64,6 +65,7 @@ pub fn run<C: Strategy, P: Pool, D: Desk, S: Sink>(
         → P.stands pool.old before no_feeds → P.lists pool.old ≡ Some lists → AreLists lists
         → D.stands desk b [] [] → C.stands core.old m s opening.now
         → IsOpening m coarse first opening.now s b
+        → AllMeet (C.meets m) m lists first last s
         → (now : Feeds) × AllFollow lists now
         × IsReport m lists first last s coarse now (S.told out.old) (S.told out.new) result }
     ensures read { (before : Start) → P.stands pool.old before no_feeds
@@ -95,7 +97,7 @@ fn start<C: Strategy, P: Pool, D: Desk, S: Sink>(
     out: &mut S,
 ) -> Result<Ending, Cut>
     requires order { first ≤ last }
-    requires last { last ≤ 121000000 }
+    requires last { last ≤ 120970080 }
     requires new { P.added pool.old ≡ 0 }
     requires fed { D.starved desk.old ≡ false }
     requires submitted { D.submitted desk.old ≡ 0 }
@@ -110,6 +112,7 @@ fn start<C: Strategy, P: Pool, D: Desk, S: Sink>(
         × ((lists : Key → List GivenItem) (m : Meaning C.Own) (s : State C.Own) (b : ClockBook)
         → AreLists lists → AllFollow lists now → IsRight b ds more
         → D.stands desk.old b [] [] → C.stands core.old m s opening.now → IsOpening m coarse first opening.now s b
+        → AllMeet (C.meets m) m lists first last s
         → IsEnd m lists first last s coarse now (C.stands core.new m) (after b ds) (S.told out.old) (S.told out.new) result)) }
     ensures closed { (D.starved desk.new ≡ true) ⊎ (D.answered desk.new ≡ D.submitted desk.new) }
     ensures fed { OnOk result (D.starved desk.new ≡ false) }

@@ -38,7 +38,6 @@ pub(crate) fn add_all<C: Strategy, P: Pool>(
     ensures added { OnOk result (P.added pool.new ≡ P.added pool.old + length added.now) }
     ensures named { OnOk result ((m : Meaning C.Own) (s : State C.Own) → C.stands core.old m s added.now
         → P.added pool.old + length added.now ≡ m.added s.own → C.stands core.new m s []) }
-    ensures left { C.left core.new ≤ C.left core.old }
     ensures orders { C.orders core.new ≤ C.orders core.old }
     ensures stands { (before : Start) (feeds : Feeds)
         → Stock (P.stands pool.old) before (P.added pool.old) heads.old keys.old.items feeds
@@ -76,7 +75,6 @@ fn add_one<C: Strategy, P: Pool>(
     ensures added { OnOk result (P.added pool.new ≡ P.added pool.old + 1) }
     ensures named { OnOk result ((m : Meaning C.Own) (s : State C.Own) (ks : List Key) → C.stands core.old m s (key.now ∷ ks)
         → P.added pool.old + (length ks + 1) ≡ m.added s.own → C.stands core.new m s ks) }
-    ensures left { C.left core.new ≤ C.left core.old }
     ensures orders { C.orders core.new ≤ C.orders core.old }
     ensures stands { (before : Start) (feeds : Feeds)
         → Stock (P.stands pool.old) before (P.added pool.old) heads.old keys.old.items feeds

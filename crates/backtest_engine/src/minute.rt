@@ -1,7 +1,7 @@
 //! One moment of a run: what ends then is taken, the moment is played, its lines are written, and feeds are removed and added.
-ghost use Rattle.std.specs.Prelude.{◌≡◌, ℕ, ◌+◌, ◌^◌, ◌≤◌, ◌⊎◌, true, false, pos, List, [], ◌++◌, length, OnOk, Err};
+ghost use Rattle.std.specs.Prelude.{◌≡◌, ℕ, ◌+◌, ◌*◌, ◌^◌, ◌≤◌, ◌⊎◌, true, false, pos, List, [], ◌++◌, length, OnOk, Err};
 ghost use Rattle.std.specs.List.{All};
-ghost use Rattle.lean_fixed.specs.Ranges.{IsMoment};
+ghost use Rattle.lean_fixed.specs.Ranges.{IsMoment, IsPrintedMoment};
 ghost use Rattle.lean_io.specs.Told.{Rose};
 ghost use Rattle.lean_orders.specs.declared.desk.Command.{Command as AskedOne};
 ghost use Rattle.lean_orders.specs.declared.desk.Reply.{Reply as Answer};
@@ -14,7 +14,9 @@ ghost use Rattle.clock_book.specs.Handled.{after};
 ghost use Rattle.order_desk.specs.Served.{IsRight};
 ghost use Rattle.frontier_sync.specs.Heads.{AreOpen};
 ghost use Rattle.frontier_sync.specs.Stays.{Stays};
+ghost use Rattle.backtest_engine.specs.Lists.{slice_at};
 ghost use Rattle.backtest_engine.specs.Meaning.{Meaning, State};
+ghost use Rattle.backtest_engine.specs.Turns.{most_of_moment};
 ghost use Rattle.backtest_engine.specs.Phased.{GoesOn};
 ghost use Rattle.backtest_engine.specs.Stands.{AreLists, AreCalm, IsEarlier, Stock, HasFaulted};
 ghost use Rattle.backtest_engine.specs.Opened.{AreNumbered, without_heads, Opened};
@@ -46,9 +48,10 @@ pub(crate) fn moment<C: Strategy, P: Pool, D: Desk, S: Sink>(
     at: Moment,
     out: &mut S,
 ) -> Result<(), Cut>
+    requires moment { IsPrintedMoment at.0 }
     requires fed { D.starved desk.old ≡ false }
     requires done { D.answered desk.old ≡ D.submitted desk.old }
-    requires few { D.submitted desk.old + P.added pool.old + C.left core.old ≤ 2 ^ 59 }
+    requires few { D.submitted desk.old + P.added pool.old + 2 * most_of_moment ≤ 2 ^ 59 }
     requires orders { D.orders desk.old + C.orders core.old ≤ most_orders }
     requires opened { AreOpen (P.is_open pool.old) heads.old }
     requires numbered { AreNumbered (P.added pool.old) heads.old }
@@ -64,11 +67,12 @@ pub(crate) fn moment<C: Strategy, P: Pool, D: Desk, S: Sink>(
         → AreLists lists → AllFollow lists now → IsRight b (cs ++ ds) (rs ++ more) → at.0 ≡ pos t
         → Knows m lists coarse (C.stands core.old m) (D.stands desk.old) (P.added pool.old) feeds heads.old t s b cs rs
         → AreCalm lists (pos t) heads.old (m.active s.own)
+        → C.meets m t (slice_at lists (pos t) (m.active s.own)) s
         → Moved m lists coarse (C.stands core.new m) (P.added pool.new) now heads.new t s (after b (cs ++ ds)) (S.told out.old) (S.told out.new) result)) }
     ensures closed { (D.starved desk.new ≡ true) ⊎ (D.answered desk.new ≡ D.submitted desk.new) }
     ensures fed { OnOk result (D.starved desk.new ≡ false) }
     ensures done { OnOk result (D.answered desk.new ≡ D.submitted desk.new) }
-    ensures few { OnOk result (D.submitted desk.new + P.added pool.new + C.left core.new ≤ 2 ^ 59) }
+    ensures few { OnOk result (D.submitted desk.new + P.added pool.new ≤ D.submitted desk.old + P.added pool.old + 2 * most_of_moment) }
     ensures orders { OnOk result (D.orders desk.new + C.orders core.new ≤ most_orders) }
     ensures opened { OnOk result (AreOpen (P.is_open pool.new) heads.new) }
     ensures numbered { OnOk result (AreNumbered (P.added pool.new) heads.new) }
@@ -112,7 +116,6 @@ fn settle<C: Strategy, P: Pool, S: Sink>(
     ensures added { OnOk result (P.added pool.new ≡ P.added pool.old + length changes.now.added.items) }
     ensures named { OnOk result ((m : Meaning C.Own) (s : State C.Own) → C.stands core.old m s changes.now.added.items
         → P.added pool.old + length changes.now.added.items ≡ m.added s.own → C.stands core.new m s []) }
-    ensures left { C.left core.new ≤ C.left core.old }
     ensures orders { C.orders core.new ≤ C.orders core.old }
     ensures stands { (before : Start) (feeds : Feeds)
         → Stock (P.stands pool.old) before (P.added pool.old) heads.old keys.old.items feeds

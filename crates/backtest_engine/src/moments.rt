@@ -1,7 +1,7 @@
 //! One moment of a strategy and a desk.
 ghost use Rattle.std.specs.Prelude.{◌≡◌, ℕ, ◌+◌, ◌^◌, ◌≤◌, ◌⊎◌, true, false, pos, List, [], ◌++◌, length, OnOk, IfOk};
 ghost use Rattle.std.specs.List.{All};
-ghost use Rattle.lean_fixed.specs.Ranges.{IsMoment};
+ghost use Rattle.lean_fixed.specs.Ranges.{IsMoment, IsPrintedMoment};
 ghost use Rattle.lean_orders.specs.declared.desk.Command.{Command as AskedOne};
 ghost use Rattle.lean_orders.specs.declared.desk.Reply.{Reply as Answer};
 ghost use Rattle.clock_book.specs.Books.{Book as ClockBook};
@@ -9,6 +9,7 @@ ghost use Rattle.clock_book.specs.Fitting.{most_orders};
 ghost use Rattle.clock_book.specs.Handled.{after};
 ghost use Rattle.order_desk.specs.Served.{IsRight};
 ghost use Rattle.backtest_engine.specs.Meaning.{Meaning, State};
+ghost use Rattle.backtest_engine.specs.Turns.{most_of_moment};
 ghost use Rattle.backtest_engine.specs.Phased.{GoesOn};
 ghost use Rattle.backtest_engine.specs.Played.{IsPlayed};
 
@@ -29,21 +30,22 @@ pub(crate) fn play<C: Strategy, D: Desk>(
     at: Moment,
     slice: &[Arrival],
 ) -> Result<Changes, Stop>
+    requires moment { IsPrintedMoment at.0 }
     requires fed { D.starved desk.old ≡ false }
     requires done { D.answered desk.old ≡ D.submitted desk.old }
-    requires few { D.submitted desk.old + C.left core.old ≤ 2 ^ 59 }
+    requires few { D.submitted desk.old + most_of_moment ≤ 2 ^ 59 }
     requires orders { D.orders desk.old + C.orders core.old ≤ most_orders }
     ensures played { (ds : List AskedOne) × (more : List Answer)
         × GoesOn (D.stands desk.old) (D.stands desk.new) ds more
         × ((m : Meaning C.Own) (s : State C.Own) (t : ℕ) (b : ClockBook) (cs : List AskedOne) (rs : List Answer)
-        → at.0 ≡ pos t → C.stands core.old m s [] → D.stands desk.old b cs rs → s.book ≡ after b cs
+        → at.0 ≡ pos t → C.stands core.old m s [] → C.meets m t slice.now s → D.stands desk.old b cs rs → s.book ≡ after b cs
         → IsRight b (cs ++ ds) (rs ++ more)
         → IsPlayed m (C.stands core.new m) (C.text core.new) t slice.now s (after b (cs ++ ds)) result) }
     ensures closed { (D.starved desk.new ≡ true) ⊎ (D.answered desk.new ≡ D.submitted desk.new) }
     ensures fed { OnOk result (D.starved desk.new ≡ false) }
     ensures done { OnOk result (D.answered desk.new ≡ D.submitted desk.new) }
-    ensures few { IfOk result (λ changes. D.submitted desk.new + (C.left core.new + length changes.added.items)
-        ≤ D.submitted desk.old + C.left core.old) }
+    ensures few { OnOk result (D.submitted desk.new ≤ D.submitted desk.old + most_of_moment) }
+    ensures added { IfOk result (λ changes. length changes.added.items ≤ most_of_moment) }
     ensures orders { OnOk result (D.orders desk.new + C.orders core.new ≤ D.orders desk.old + C.orders core.old) }
     ensures starts { IfOk result (λ changes. All (λ key. IsMoment key.start.0) changes.added.items) }
 {

@@ -1,6 +1,6 @@
 ghost use Rattle.std.specs.Prelude.{◌≡◌, ◌≢◌, ℕ, ◌+◌, ◌^◌, ◌<◌, ◌≤◌, false, pos, List, [], ◌∷◌, ◌++◌, length, IfOk, IfSome, OnOk};
 ghost use Rattle.std.specs.List.{All};
-ghost use Rattle.lean_fixed.specs.Ranges.{IsMoment};
+ghost use Rattle.lean_fixed.specs.Ranges.{IsMoment, IsPrintedMoment};
 ghost use Rattle.lean_items.specs.declared.arrival.Arrival.{Arrival as Given};
 ghost use Rattle.lean_items.specs.declared.feed_key.FeedKey.{FeedKey as Key};
 ghost use Rattle.lean_orders.specs.declared.desk.Command.{Command as AskedOne};
@@ -10,7 +10,7 @@ ghost use Rattle.clock_book.specs.Fitting.{IsFitting, submits, most_orders};
 ghost use Rattle.clock_steps.specs.Runs.{rests};
 ghost use Rattle.order_book.specs.Stands.{StandsFor};
 ghost use Rattle.backtest_engine.specs.Meaning.{Meaning, State, moment_of};
-ghost use Rattle.backtest_engine.specs.Turns.{Turn, HasNext, text_after, turn_after, IsFinished, IsNextClose, Arrives, Gives, Closes};
+ghost use Rattle.backtest_engine.specs.Turns.{Turn, HasNext, text_after, turn_after, IsFinished, IsNextClose, Arrives, Gives, Closes, most_of_moment};
 
 use crate::changes::Changes;
 use crate::limits::Stop;
@@ -36,16 +36,17 @@ pub trait Strategy {
     /// Within a moment: of this phase these commands were given out and these replies were heard.
     ghost plays: { Self → Meaning Own → Turn Own → List AskedOne → List Answer → Type 0 };
 
+    /// A slice that the strategy takes at a moment, in a state.
+    ghost meets: { Meaning Own → ℕ → List Given → State Own → Type 0 };
+
     /// The lines of the moment so far.
     ghost text: { Self → List ℕ };
 
-    /// No more commands and feeds than this are to come.
+    /// No more commands than this are to come of the moment.
     ghost left: { Self → ℕ };
 
     /// No more orders than this are to come.
     ghost orders: { Self → ℕ };
-
-    ghost few: { (strategy : Self) → left strategy < 2 ^ 58 };
 
     ghost few_orders: { (strategy : Self) → orders strategy ≤ most_orders };
 
@@ -61,7 +62,7 @@ pub trait Strategy {
 
     /// At a moment at which nothing ends and no session closes nothing happens.
     ghost idle: { (strategy : Self) (m : Meaning Own) (s : State Own) (t : ℕ)
-        → stands strategy m s [] → m.is_close t ≡ false → moment_of m t [] s ≡ rests s };
+        → stands strategy m s [] → meets m t [] s → m.is_close t ≡ false → moment_of m t [] s ≡ rests s };
 
     /// Tells the number of the feed of the first key that waits for one.
     fn named(&mut self, key: &FeedKey, feed: FeedNo) -> Result<(), NoMemory>
@@ -73,10 +74,11 @@ pub trait Strategy {
 
     /// Takes what ends at a moment, and the lines of the moment begin.
     fn arrive(&mut self, at: Moment, slice: &[Arrival]) -> Result<(), Stop>
+        requires { IsPrintedMoment at.0 }
         ensures arrives { (m : Meaning Own) (s : State Own) (t : ℕ)
-            → stands self.old m s [] → at.0 ≡ pos t
+            → stands self.old m s [] → meets m t slice.now s → at.0 ≡ pos t
             → Arrives m (plays self.new m) (text self.new) t slice.now s result }
-        ensures left { left self.new ≤ left self.old }
+        ensures left { left self.new ≤ most_of_moment }
         ensures orders { orders self.new ≤ orders self.old };
 
     /// Gives out the next command of a phase. `None`: the phase has no more.
@@ -104,7 +106,7 @@ pub trait Strategy {
             → plays self.old m turn cs rs → IsFinished m turn cs rs → turn.phase ≡ Phase.Close
             → Closes m (stands self.new m) (text self.new) (turn_after m turn) changes.added.items changes.removed.items) }
         ensures starts { IfOk result (λ changes. All (λ key. IsMoment key.start.0) changes.added.items) }
-        ensures fewer { IfOk result (λ changes. left self.new + length changes.added.items ≤ left self.old) }
+        ensures few { IfOk result (λ changes. length changes.added.items ≤ most_of_moment) }
         ensures left { left self.new ≤ left self.old }
         ensures orders { orders self.new ≤ orders self.old };
 

@@ -1,5 +1,5 @@
 //! From one moment to the next at which anything can happen.
-ghost use Rattle.std.specs.Prelude.{◌≡◌, ℕ, ◌+◌, ◌^◌, ◌<◌, ◌≤◌, ◌⊎◌, true, false, pos, ◌<ℤ◌, ◌≤ℤ◌, List, [], ◌++◌, length, IfSome, OnOk, Err, MatchOption};
+ghost use Rattle.std.specs.Prelude.{◌≡◌, ℕ, ◌+◌, ◌<◌, ◌≤◌, ◌⊎◌, true, false, pos, ◌<ℤ◌, ◌≤ℤ◌, List, [], ◌++◌, length, IfSome, OnOk, Err, MatchOption};
 ghost use Rattle.lean_io.specs.Told.{Rose};
 ghost use Rattle.lean_orders.specs.declared.desk.Command.{Command as AskedOne};
 ghost use Rattle.lean_orders.specs.declared.desk.Reply.{Reply as Answer};
@@ -17,7 +17,7 @@ ghost use Rattle.backtest_engine.specs.Phased.{GoesOn};
 ghost use Rattle.backtest_engine.specs.Stands.{AreLists, AreCalm, IsEarlier, Stock, HasFaulted};
 ghost use Rattle.backtest_engine.specs.Opened.{AreNumbered};
 ghost use Rattle.backtest_engine.specs.Moved.{Knows};
-ghost use Rattle.backtest_engine.specs.Walked.{AllFrom, NoClose, IfFault, IsEnd, IsEnding};
+ghost use Rattle.backtest_engine.specs.Walked.{AllFrom, NoClose, IfFault, IsEnd, IsEnding, AllMeet};
 
 use crate::ending::{Cut, Ending};
 use crate::minute::moment;
@@ -43,10 +43,10 @@ pub(crate) fn walk<C: Strategy, P: Pool, D: Desk, S: Sink>(
     out: &mut S,
 ) -> Result<Ending, Cut>
     requires order { first ≤ last }
-    requires last { last ≤ 121000000 }
+    requires last { last ≤ 120970080 }
     requires fed { D.starved desk.old ≡ false }
     requires done { D.answered desk.old ≡ D.submitted desk.old }
-    requires few { D.submitted desk.old + P.added pool.old + C.left core.old ≤ 2 ^ 59 }
+    requires few { D.submitted desk.old + P.added pool.old ≤ 2000 }
     requires orders { D.orders desk.old + C.orders core.old ≤ most_orders }
     requires opened { AreOpen (P.is_open pool.old) heads.old }
     requires numbered { AreNumbered (P.added pool.old) heads.old }
@@ -61,6 +61,7 @@ pub(crate) fn walk<C: Strategy, P: Pool, D: Desk, S: Sink>(
         → AreLists lists → AllFollow lists now → IsRight b (cs ++ ds) (rs ++ more)
         → Knows m lists coarse (C.stands core.old m) (D.stands desk.old) (P.added pool.old) feeds heads.old first s0 b cs rs
         → AreCalm lists (pos first) heads.old (m.active s0.own)
+        → AllMeet (C.meets m) m lists first last s0
         → IsEnd m lists first last s0 coarse now (C.stands core.new m) (after b (cs ++ ds)) (S.told out.old) (S.told out.new) result)) }
     ensures closed { (D.starved desk.new ≡ true) ⊎ (D.answered desk.new ≡ D.submitted desk.new) }
     ensures fed { OnOk result (D.starved desk.new ≡ false) }
@@ -117,7 +118,7 @@ fn ending_at(stop: &Arrival, keys: &[FeedKey]) -> Ending
 
 // The next minute at which a head ends or a session closes.
 fn next_minute<C: Strategy>(core: &C, heads: &Heads, at: u32, last: u32) -> Option<u32>
-    requires last { last ≤ 121000000 }
+    requires last { last ≤ 120970080 }
     requires order { at ≤ last }
     ensures later { IfSome result (λ next. (at < next) × (next ≤ last)) }
     ensures ends { AllFrom (at + 1) heads.now → MatchOption result (AllFrom (last + 1) heads.now) (λ next. AllFrom next heads.now) }
@@ -135,7 +136,7 @@ fn next_minute<C: Strategy>(core: &C, heads: &Heads, at: u32, last: u32) -> Opti
 
 // The next minute at which a head ends.
 fn next_end(heads: &Heads, at: u32, last: u32) -> Option<u32>
-    requires last { last ≤ 121000000 }
+    requires last { last ≤ 120970080 }
     requires order { at ≤ last }
     ensures later { IfSome result (λ next. (at < next) × (next ≤ last)) }
     ensures ends { AllFrom (at + 1) heads.now → MatchOption result (AllFrom (last + 1) heads.now) (λ next. AllFrom next heads.now) }
@@ -148,7 +149,7 @@ fn next_end(heads: &Heads, at: u32, last: u32) -> Option<u32>
 
 // The next minute at which a session closes.
 fn next_close<C: Strategy>(core: &C, at: u32, last: u32) -> Option<u32>
-    requires last { last ≤ 121000000 }
+    requires last { last ≤ 120970080 }
     requires order { at ≤ last }
     ensures later { IfSome result (λ next. (at < next) × (next ≤ last)) }
     ensures closes { (m : Meaning C.Own) (s : State C.Own) → C.stands core.now m s []
@@ -163,7 +164,7 @@ fn next_close<C: Strategy>(core: &C, at: u32, last: u32) -> Option<u32>
 // The minute of a moment, if it lies behind one minute and not behind another. A moment that is not behind the first one is
 // taken for the next minute, so that the run goes on whatever it is told.
 fn minute_behind(moment: Moment, at: u32, last: u32) -> Option<u32>
-    requires last { last ≤ 121000000 }
+    requires last { last ≤ 120970080 }
     requires order { at ≤ last }
     ensures later { IfSome result (λ next. (at < next) × (next ≤ last)) }
     ensures behind { pos at <ℤ moment.0 → MatchOption result (pos last <ℤ moment.0) (λ next. moment.0 ≡ pos next) }
@@ -178,9 +179,9 @@ fn minute_behind(moment: Moment, at: u32, last: u32) -> Option<u32>
 }
 
 // The number of a moment that is not negative.
-fn minute_of(moment: Moment) -> u32
+pub(crate) fn minute_of(moment: Moment) -> u32
     requires low { pos 0 ≤ℤ moment.0 }
-    requires high { moment.0 ≤ℤ pos 121000000 }
+    requires high { moment.0 ≤ℤ pos 120970080 }
     ensures { moment.0 ≡ pos result }
 {
     moment.0 as u32

@@ -32,7 +32,7 @@ impl Dots {
 impl Strategy for Dots {
     ghost use Rattle.std.specs.Prelude.{◌≡◌, List};
     ghost use Rattle.lean_items.specs.declared.feed_key.FeedKey.{FeedKey as Key};
-    ghost use Rattle.engine_tests.specs.Dots.{dots, PlaysDots, dots_pass, dots_say, dots_rest, none_left, no_orders};
+    ghost use Rattle.engine_tests.specs.Dots.{dots, PlaysDots, dots_pass, dots_say, dots_rest, takes_any, no_orders};
 
     ghost Own = { List Key };
 
@@ -40,13 +40,13 @@ impl Strategy for Dots {
 
     ghost plays = { λ d m turn cs rs. PlaysDots d.text.items m turn cs rs };
 
+    ghost meets = { λ m t slice s. takes_any t slice };
+
     ghost text = { λ d. d.text.items };
 
     ghost left = { λ d. 0 };
 
     ghost orders = { λ d. 0 };
-
-    ghost few = { λ d. none_left };
 
     ghost few_orders = { λ d. no_orders };
 
@@ -54,7 +54,7 @@ impl Strategy for Dots {
 
     ghost says = { λ d m turn cs rs plays finished. dots_say d.text.items m turn cs rs plays };
 
-    ghost idle = { λ d m s t stands none. dots_rest m s t stands };
+    ghost idle = { λ d m s t stands met none. dots_rest m s t stands };
 
     fn named(&mut self, key: &FeedKey, feed: FeedNo) -> Result<(), NoMemory> {
         Ok(())

@@ -14,7 +14,7 @@ ghost use Rattle.backtest_engine.specs.Reported.{IsOpening, IsReport};
 ghost use Rattle.engine_tests.specs.Dots.{dots};
 
 use crate::dots::Dots;
-use backtest_engine::{Ended, run};
+use backtest_engine::{Ended, run_strategy};
 use lean_io::Sink;
 use lean_items::{FeedKey, Pool};
 use order_book::Book;
@@ -32,7 +32,7 @@ pub fn run_dots<P: Pool, S: Sink>(
     out: &mut S,
 ) -> Ended
     requires order { first ≤ last }
-    requires last { last ≤ 121000000 }
+    requires last { last ≤ 120970080 }
     requires new { P.added pool.old ≡ 0 }
     requires stands { (s : ClockBook) × StandsFor book s }
     requires count { order_count book ≡ 0 }
@@ -48,7 +48,7 @@ pub fn run_dots<P: Pool, S: Sink>(
 {
     let mut strategy = Dots::new(alloc);
     let desk = SerialDesk::new(alloc, book);
-    run(
+    run_strategy(
         alloc,
         &mut strategy,
         pool,

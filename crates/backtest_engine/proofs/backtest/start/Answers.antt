@@ -19,7 +19,7 @@ returns-in-Err-clause-walked g c =
       λ before stand.
           (let (now, st, earlier, nothing) = c.in-Err.ensures.stands before no_feeds
           (stock-none (P.stands c.args.pool.now) before (P.added c.args.pool.now) c.new-heads.result c.new-keys.result.items c.new-heads.ensures stand) in
-          (now, st, tt, λ lists m s b are follow right desk core op. front-nothing (g.S.Sink.told c.args.out.now) (whole m lists c.args.first c.args.last s).lines)),
+          (now, st, tt, λ lists m s b are follow right desk core op met. front-nothing (g.S.Sink.told c.args.out.now) (whole m lists c.args.first c.args.last s).lines)),
     )
 
 pub returns-then-is_broken-clause-walked : goal.returns-then-is_broken-clause-walked
@@ -34,7 +34,7 @@ returns-then-is_broken-clause-walked g c =
           (let (now, st, earlier, opened) = c.in-Ok.ensures.stands before no_feeds
           (stock-none (P.stands c.args.pool.now) before (P.added c.args.pool.now) c.new-heads.result c.new-keys.result.items c.new-heads.ensures stand) in
           let failed = broken-failed c.args.coarse c.add_all.new.heads now opened.stock.taken is in
-          (now, st, faulted-of c.args.coarse now failed, λ lists m s b are follow right desk core op. (cut-none m lists c.args.first c.args.last s (g.S.Sink.told c.args.out.now), failed))),
+          (now, st, faulted-of c.args.coarse now failed, λ lists m s b are follow right desk core op met. (cut-none m lists c.args.first c.args.last s (g.S.Sink.told c.args.out.now), failed))),
     )
 
 pub returns-clause-walked : goal.returns-clause-walked
@@ -57,7 +57,7 @@ returns-clause-walked g c =
             now,
             st1,
             fault,
-            λ lists m s b are follow right desk core op.
+            λ lists m s b are follow right desk core op met.
                 (let at = opening-at lists c.args.coarse m are c.args.first c.args.opening.now s b op (P.stands pool1) before (P.added c.args.pool.now) (P.added pool1) mid c.new-heads.result heads c.add_all.new.keys.items c.requires.new c.new-heads.ensures
                 (earlier lists follow) opened in
                 let count : P.added pool1 ≡ length c.args.opening.now = (let a = c.in-Ok.ensures.added in let z = c.requires.new in omega (arith, a, z)) in
@@ -65,6 +65,6 @@ returns-clause-walked g c =
                 let named = c.in-Ok.ensures.named m s core number in
                 let knows = opening-knows lists c.args.coarse m are c.args.first c.args.opening.now s b op (C.stands core1 m) (g.D.Desk.stands c.args.desk.now) (P.added pool1) mid heads named desk count at in
                 let calm = opening-calm lists c.args.coarse m are c.args.first c.args.opening.now s b op mid heads at c.stop.ensures.rising sound in
-                is_end lists m s b [] [] are follow right knows calm),
+                is_end lists m s b [] [] are follow right knows calm met),
           )),
     )

@@ -36,7 +36,6 @@ keys-preserved g c =
           (let left = length-drop (place + 1) added in
           let e : P.added pool + (length (drop (place + 1) added) + 1) ≡ m.added s.own = omega (arith, is, inv.added, left, within) in
           did.named m s (drop (place + 1) added) (subst (λ xs. g.C.Strategy.stands c.keys.core m s xs) dropped (inv.named m s h is)) e);
-      left = omega (arith, did.left, inv.left);
       orders = omega (arith, did.orders, inv.orders);
       known = λ before feeds stock.
           (let (later, earlier, o) = inv.known before feeds stock in

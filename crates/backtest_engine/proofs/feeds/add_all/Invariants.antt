@@ -19,7 +19,6 @@ invariant-keys g l =
       added : g.P.Pool.added now ≡ g.P.Pool.added first + l.place;
       named : (m : Meaning g.C.Strategy.Own) (s : State g.C.Strategy.Own) → g.C.Strategy.stands l.fn.core m s l.added
           → g.P.Pool.added first + length l.added ≡ m.added s.own → g.C.Strategy.stands l.core m s (drop l.place l.added);
-      left : g.C.Strategy.left l.core ≤ g.C.Strategy.left l.fn.core;
       orders : g.C.Strategy.orders l.core ≤ g.C.Strategy.orders l.fn.core;
       known : (before : Start) (feeds : Feeds) → Stock (g.P.Pool.stands first) before (g.P.Pool.added first) l.fn.heads l.fn.keys.items feeds
           → (later : Feeds) × IsEarlier feeds later

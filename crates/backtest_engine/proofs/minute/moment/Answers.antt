@@ -31,7 +31,7 @@ returns-in-Ok-false-clause-moved g c =
             (λ lists follow. all-front lists feeds taken follow),
             faulted-of c.args.coarse now failed,
             tt,
-            λ lists m t s b cs rs are follow right is knows calm. (refl, failed),
+            λ lists m t s b cs rs are follow right is knows calm met. (refl, failed),
           )),
     )
 
@@ -47,7 +47,7 @@ returns-in-Err-clause-moved g c =
         (λ lists follow. all-front lists feeds taken follow),
         tt,
         tt,
-        λ lists m t s b cs rs are follow right is knows calm. front-nothing (g.S.Sink.told c.args.out.now) (moment_at m lists c.args.coarse t s).lines,
+        λ lists m t s b cs rs are follow right is knows calm met. front-nothing (g.S.Sink.told c.args.out.now) (moment_at m lists c.args.coarse t s).lines,
       ),
     )
 
@@ -89,9 +89,10 @@ returns-in-Ok-clause-moved g c =
             (λ lists follow. all-front lists feeds taken (earlier lists follow)),
             settled-fault (HasFaulted now) (S.text core1) told0 told c.settle.result c.settle.ensures.wrote,
             on-ok-map _ _ c.settle.result (λ o. o.stock) opened,
-            λ lists m t s b cs rs are follow right is knows calm.
+            λ lists m t s b cs rs are follow right is knows calm met.
                 (let step = slice-step lists are c.args.coarse c.args.at t feeds taken c.args.heads.now after c.deref.result.now (m.active s.own) is (earlier lists follow) knows.at calm sliced c.in-Ok-true.ensures.rising sound given in
-                let played = plays m s t b cs rs is knows.core_is knows.desk_is knows.book right in
+                let meets = subst (λ xs. S.meets m t xs s) (sym step.1) met in
+                let played = plays m s t b cs rs is knows.core_is meets knows.desk_is knows.book right in
                 settled-moved m lists c.args.coarse (S.stands core1 m) (S.stands c.settle.new.core m) (P.stands pool2) before (S.text core1) (P.added pool1) (P.added pool2) mid now after c.settle.new.heads c.deref.result.now c.settle.new.keys.items ks removed
                 t s _ told0 told c.settle.result are follow step.1 (knows.added_is ∙ sym c.take_slice.ensures.added) step.0 played c.settle.ensures.wrote opened c.settle.ensures.added
                 (on-ok-map _ _ c.settle.result (λ n z h e. n m z h e) c.settle.ensures.named)),
@@ -122,9 +123,10 @@ returns-in-Err-play-clause-moved g c =
             (λ lists follow. all-front lists feeds taken follow),
             halted-fault (HasFaulted now) (S.text core1) stop told0 told c.stopped.result c.stopped.ensures.wrote,
             tt,
-            λ lists m t s b cs rs are follow right is knows calm.
+            λ lists m t s b cs rs are follow right is knows calm met.
                 (let step = slice-step lists are c.args.coarse c.args.at t feeds taken c.args.heads.now after c.deref.result.now (m.active s.own) is follow knows.at calm sliced c.in-Ok-true.ensures.rising sound given in
-                let played = plays m s t b cs rs is knows.core_is knows.desk_is knows.book right in
+                let meets = subst (λ xs. S.meets m t xs s) (sym step.1) met in
+                let played = plays m s t b cs rs is knows.core_is meets knows.desk_is knows.book right in
                 halted-moved m lists c.args.coarse (S.stands core1 m) (S.text core1) (P.added c.take_slice.new.pool) now after c.deref.result.now t s (book_after b (cs ++ ds)) told0 told stop c.stopped.result step.1 played c.stopped.ensures.wrote),
           )),
     )

@@ -12,12 +12,12 @@ pub moments-init : goal.moments-init
 moments-init g c =
     let P = g.P.Pool in
     record {
-      known = known-first c.args.coarse c.args.first c.args.last (g.D.Desk.stands c.args.desk.now) (P.stands c.args.pool.now) (P.added c.args.pool.now) c.args.heads.now c.args.keys.now.items (g.C.Strategy.stands c.args.core.now) (g.S.Sink.told c.args.out.now);
+      known = known-first c.args.coarse c.args.first c.args.last (g.D.Desk.stands c.args.desk.now) (P.stands c.args.pool.now) (P.added c.args.pool.now) c.args.heads.now c.args.keys.now.items (g.C.Strategy.stands c.args.core.now) g.C.Strategy.meets (g.S.Sink.told c.args.out.now);
       low = omega arith;
       high = c.requires.order;
       fed = c.requires.fed;
       done = c.requires.done;
-      few = c.requires.few;
+      few = (let a = c.requires.few in omega (arith, a));
       orders = c.requires.orders;
       opened = c.requires.opened;
       numbered = c.requires.numbered;
@@ -33,7 +33,7 @@ returns-in-Err-clause-walked g c =
     let C = g.C.Strategy in
     let l = c.moments in
     let inv = l.invariant in
-    ends-cut c.args.coarse c.args.first c.args.last (D.stands c.args.desk.now) (P.stands c.args.pool.now) (P.added c.args.pool.now) c.args.heads.now c.args.keys.now.items (C.stands c.args.core.now) (g.S.Sink.told c.args.out.now)
+    ends-cut c.args.coarse c.args.first c.args.last (D.stands c.args.desk.now) (P.stands c.args.pool.now) (P.added c.args.pool.now) c.args.heads.now c.args.keys.now.items (C.stands c.args.core.now) C.meets (g.S.Sink.told c.args.out.now)
     (D.stands l.desk) (P.stands l.pool) (P.added l.pool) l.heads l.keys.items (C.stands l.core) l.at (g.S.Sink.told l.out) inv.low inv.high inv.known
     (D.stands c.moment.new.desk) (P.stands c.moment.new.pool) (P.added c.moment.new.pool) c.moment.new.heads c.moment.new.keys.items (C.stands c.moment.new.core) c.moment_of.result (g.S.Sink.told c.moment.new.out) c.in-Err.cut
     c.moment_of.ensures c.in-Err.ensures.moved
@@ -60,11 +60,11 @@ returns-in-Some-clause-walked g c =
     let new = c.moment.new in
     let found : find (λ (a : Arrival). stops a.item) new.heads ≡ Some c.in-Some.stop = sym c.stop.ensures.first ∙ c.in-Some.is in
     let told0 = g.S.Sink.told c.args.out.now in
-    let behind = known-came c.args.coarse c.args.first c.args.last (D.stands c.args.desk.now) (P.stands c.args.pool.now) (P.added c.args.pool.now) c.args.heads.now c.args.keys.now.items (C.stands c.args.core.now) told0
+    let behind = known-came c.args.coarse c.args.first c.args.last (D.stands c.args.desk.now) (P.stands c.args.pool.now) (P.added c.args.pool.now) c.args.heads.now c.args.keys.now.items (C.stands c.args.core.now) C.meets told0
     (D.stands l.desk) (P.stands l.pool) (P.added l.pool) l.heads l.keys.items (C.stands l.core) l.at (g.S.Sink.told l.out) inv.low inv.high inv.known
     (D.stands new.desk) (P.stands new.pool) (P.added new.pool) new.heads new.keys.items (C.stands new.core) c.moment_of.result (g.S.Sink.told new.out) c.moment_of.ensures c.in-Ok.ensures.moved in
-    known-stopped c.args.coarse c.args.first c.args.last (D.stands c.args.desk.now) (P.stands c.args.pool.now) (P.added c.args.pool.now) c.args.heads.now c.args.keys.now.items (C.stands c.args.core.now) told0
-    (D.stands new.desk) (P.stands new.pool) (P.added new.pool) new.heads new.keys.items (C.stands new.core) l.at (g.S.Sink.told new.out) inv.low inv.high (λ m s t h none. C.idle new.core m s t h none) behind
+    known-stopped c.args.coarse c.args.first c.args.last (D.stands c.args.desk.now) (P.stands c.args.pool.now) (P.added c.args.pool.now) c.args.heads.now c.args.keys.now.items (C.stands c.args.core.now) C.meets told0
+    (D.stands new.desk) (P.stands new.pool) (P.added new.pool) new.heads new.keys.items (C.stands new.core) l.at (g.S.Sink.told new.out) inv.low inv.high (λ m s t h met none. C.idle new.core m s t h met none) behind
     c.in-Some.stop c.ending_at.result found (subst (λ ks. IsEnding ks c.in-Some.stop c.ending_at.result) c.deref.ensures.value c.ending_at.ensures)
 
 pub moments-preserved : goal.moments-preserved
@@ -80,18 +80,18 @@ moments-preserved g c =
     let then = c.in-Some-next_minute.ensures in
     let none : find (λ (a : Arrival). stops a.item) new.heads ≡ None = sym c.stop.ensures.first ∙ c.in-None.is in
     let told0 = g.S.Sink.told c.args.out.now in
-    let behind = known-came c.args.coarse c.args.first c.args.last (D.stands c.args.desk.now) (P.stands c.args.pool.now) (P.added c.args.pool.now) c.args.heads.now c.args.keys.now.items (C.stands c.args.core.now) told0
+    let behind = known-came c.args.coarse c.args.first c.args.last (D.stands c.args.desk.now) (P.stands c.args.pool.now) (P.added c.args.pool.now) c.args.heads.now c.args.keys.now.items (C.stands c.args.core.now) C.meets told0
     (D.stands l.desk) (P.stands l.pool) (P.added l.pool) l.heads l.keys.items (C.stands l.core) l.at (g.S.Sink.told l.out) inv.low inv.high inv.known
     (D.stands new.desk) (P.stands new.pool) (P.added new.pool) new.heads new.keys.items (C.stands new.core) c.moment_of.result (g.S.Sink.told new.out) c.moment_of.ensures did.moved in
     record {
-      known = known-next c.args.coarse c.args.first c.args.last (D.stands c.args.desk.now) (P.stands c.args.pool.now) (P.added c.args.pool.now) c.args.heads.now c.args.keys.now.items (C.stands c.args.core.now) told0
-          (D.stands new.desk) (P.stands new.pool) (P.added new.pool) new.heads new.keys.items (C.stands new.core) l.at (g.S.Sink.told new.out) inv.low inv.high (λ m s t h none. C.idle new.core m s t h none) behind
+      known = known-next c.args.coarse c.args.first c.args.last (D.stands c.args.desk.now) (P.stands c.args.pool.now) (P.added c.args.pool.now) c.args.heads.now c.args.keys.now.items (C.stands c.args.core.now) C.meets told0
+          (D.stands new.desk) (P.stands new.pool) (P.added new.pool) new.heads new.keys.items (C.stands new.core) l.at (g.S.Sink.told new.out) inv.low inv.high (λ m s t h met none. C.idle new.core m s t h met none) behind
           next then.later.0 then.later.1 none then.ends then.closes;
       low = (let a = then.later.0 in let b = inv.low in omega (arith, a, b));
       high = then.later.1;
       fed = did.fed;
       done = did.done;
-      few = did.few;
+      few = (let a = did.few in let b = inv.few in let d = then.later.0 in omega (arith, a, b, d));
       orders = did.orders;
       opened = did.opened;
       numbered = did.numbered;
@@ -111,9 +111,9 @@ returns-in-None-next_minute-clause-walked g c =
     let then = c.in-None-next_minute.ensures in
     let none : find (λ (a : Arrival). stops a.item) new.heads ≡ None = sym c.stop.ensures.first ∙ c.in-None.is in
     let told0 = g.S.Sink.told c.args.out.now in
-    let behind = known-came c.args.coarse c.args.first c.args.last (D.stands c.args.desk.now) (P.stands c.args.pool.now) (P.added c.args.pool.now) c.args.heads.now c.args.keys.now.items (C.stands c.args.core.now) told0
+    let behind = known-came c.args.coarse c.args.first c.args.last (D.stands c.args.desk.now) (P.stands c.args.pool.now) (P.added c.args.pool.now) c.args.heads.now c.args.keys.now.items (C.stands c.args.core.now) C.meets told0
     (D.stands l.desk) (P.stands l.pool) (P.added l.pool) l.heads l.keys.items (C.stands l.core) l.at (g.S.Sink.told l.out) inv.low inv.high inv.known
     (D.stands new.desk) (P.stands new.pool) (P.added new.pool) new.heads new.keys.items (C.stands new.core) c.moment_of.result (g.S.Sink.told new.out) c.moment_of.ensures c.in-Ok.ensures.moved in
-    known-whole c.args.coarse c.args.first c.args.last (D.stands c.args.desk.now) (P.stands c.args.pool.now) (P.added c.args.pool.now) c.args.heads.now c.args.keys.now.items (C.stands c.args.core.now) told0
-    (D.stands new.desk) (P.stands new.pool) (P.added new.pool) new.heads new.keys.items (C.stands new.core) l.at (g.S.Sink.told new.out) inv.low inv.high (λ m s t h none. C.idle new.core m s t h none) behind
+    known-whole c.args.coarse c.args.first c.args.last (D.stands c.args.desk.now) (P.stands c.args.pool.now) (P.added c.args.pool.now) c.args.heads.now c.args.keys.now.items (C.stands c.args.core.now) C.meets told0
+    (D.stands new.desk) (P.stands new.pool) (P.added new.pool) new.heads new.keys.items (C.stands new.core) l.at (g.S.Sink.told new.out) inv.low inv.high (λ m s t h met none. C.idle new.core m s t h met none) behind
     none then.ends then.closes

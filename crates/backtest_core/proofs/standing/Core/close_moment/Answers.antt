@@ -12,6 +12,7 @@ use Rattle.backtest_core.specs.Waiting.{key_in, subscriptions_in}
 use Rattle.backtest_core.specs.Leaving.{is_done, leaving_of, lines_of}
 use Rattle.backtest_core.specs.Text.{lines_bytes}
 use Rattle.backtest_core.proofs.CoreLemmas.{each-filter, stay-watched, feeds-leaving, lines-leaving, keys-waiting}
+use Rattle.backtest_core.proofs.JoinLemmas.{keys-start}
 use Rattle.backtest_core.proofs.standing.Core.close_moment.Goals as goal
 
 pub returns-clause-closes : goal.returns-clause-closes
@@ -49,3 +50,9 @@ returns-clause-closes c = λ i s.
       c.in_ok-removed.ensures.feeds seen s.keeps.seen
           ∙ (ap (λ l. map (λ w. w.feed) (leaving_of seen l)) c.deref.ensures.value ∙ feeds-leaving seen i.at ws fs s.watched),
     )
+
+pub returns-clause-starts : goal.returns-clause-starts
+returns-clause-starts c =
+    let core = c.args.self.now in
+    keys-start core.plan.universe core.commands.at c.deref-2.result.now c.in_ok-waiting.waiting.items c.in_ok-added.added.items core.commands.timed
+    c.in_ok-waiting.ensures.waits (c.in_ok-added.ensures ∙ ap (map key_in) c.deref-3.ensures.value)
