@@ -1,22 +1,25 @@
 -- What the top calls say follows from what was printed and from its causes.
-use Rattle.std.proofs.Common.{◌≡◌, ℕ, ◌≤◌, List, [], ◌++◌, refl, sym, ap, ◌∙◌, subst, inl, inr}
+use Rattle.std.proofs.Common.{◌≡◌, ℕ, ◌≤◌, List, ◌++◌, refl, sym, ap, ◌∙◌, subst, inl, inr}
 use Rattle.std.specs.Prelude.{Option, Some, None, ◌⊎◌, Result, Ok, Err, IsErr, IsSome}
 use Rattle.lean_fixed.specs.declared.resolution.Resolution.{Resolution}
 use Rattle.lean_fixed.specs.declared.time.Window.{Window}
 use Rattle.lean_io.specs.Told.{Files, Rose}
 use Rattle.exchange_hours.specs.Entries.{Entries}
 use Rattle.clock_steps.specs.Runs.{Ran}
+use Rattle.clock_run.specs.Lines.{Halt, malformed, too_many_securities, too_many_requests}
+use Rattle.rule_strategy.specs.declared.plan.Plan.{Plan}
 use Rattle.report_pages.specs.Ended.{ended_by}
 use Rattle.session_tape.specs.Session.{SessionBar, Refusal as SessionRefusal, session_sources, session}
 use Rattle.lean_top.specs.declared.status.Status.{Status}
 use Rattle.lean_top.specs.declared.status.Status.TheVariants.{Done, Usage, Algorithm, BadRow, ReadFault, WriteFault, NoMemory, Limit}
-use Rattle.lean_top.specs.Command.{Asked, DailyTape, SessionTape, command}
+use Rattle.lean_top.specs.Command.{Asked, DailyTape, SessionTape, Backtest, command}
 use Rattle.daily_tape.specs.DailyTape.{securities, tape}
-use Rattle.lean_top.specs.Ending.{Seen, IsStop, Meets, IsComplete, ComesExactly, RefusesHours, StopsSession, HasBadRow, HasRun}
+use Rattle.lean_top.specs.Ending.{Seen, IsStop, Meets, IsComplete, ComesExactly, RefusesPlan, RefusesFiles, StopsSession, IsBadRow, IsLimit, HaltsWith, HaltsBy, HasBadRow, HasLimit, HasRun}
 use Rattle.lean_top.specs.HoursRead.{hours_file}
+use Rattle.lean_top.specs.AlgorithmRead.{algorithm_in}
 use Rattle.lean_top.specs.Outcome.{HasReported, HasUsage, HasStatusCause, NamesNoUsage}
 use Rattle.report_pages.specs.Printed.{IsTaken, IsFront}
-use Rattle.lean_top.specs.Report.{report, report_of, ended_status, session_with, AreWholeSteps}
+use Rattle.lean_top.specs.Report.{report, report_of, ended_status, session_with, halt_status, setup_of, backtest_over, backtest_with, backtest_by, AreWholeSteps}
 
 -- the sink took the whole report and the status is the report's, or it took a front of it and the status is a stop
 abbrev pub Delivers : List ℕ × Status → Option (List ℕ) → Option (List ℕ) → Seen → Seen → Status → Type 0
@@ -36,6 +39,82 @@ no_hours : {X : Type 0} (stop : Option X) → ended_status (ended_by stop) ≡ A
 no_hours (Some refusal) e = cc
 no_hours None e = cc
 
+no_limit : {X : Type 0} (stop : Option X) → ended_status (ended_by stop) ≡ Limit → ⊥
+no_limit (Some refusal) e = cc
+no_limit None e = cc
+
+-- a backtest names a malformed line or a limit exactly where one halts it, and no file that it reads first
+halt_bad : (halt : Option Halt) → halt_status halt ≡ BadRow → IsBadRow halt
+halt_bad None e = cc
+halt_bad (Some (malformed kind bad)) e = tt
+halt_bad (Some too_many_securities) e = cc
+halt_bad (Some too_many_requests) e = cc
+
+bad_halt : (halt : Option Halt) → IsBadRow halt → halt_status halt ≡ BadRow
+bad_halt None is = absurd is
+bad_halt (Some (malformed kind bad)) is = refl
+bad_halt (Some too_many_securities) is = absurd is
+bad_halt (Some too_many_requests) is = absurd is
+
+halt_limit : (halt : Option Halt) → halt_status halt ≡ Limit → IsLimit halt
+halt_limit None e = cc
+halt_limit (Some (malformed kind bad)) e = cc
+halt_limit (Some too_many_securities) e = tt
+halt_limit (Some too_many_requests) e = tt
+
+limit_halt : (halt : Option Halt) → IsLimit halt → halt_status halt ≡ Limit
+limit_halt None is = absurd is
+limit_halt (Some (malformed kind bad)) is = absurd is
+limit_halt (Some too_many_securities) is = refl
+limit_halt (Some too_many_requests) is = refl
+
+no_refusal : (halt : Option Halt) → halt_status halt ≡ Algorithm → ⊥
+no_refusal None e = cc
+no_refusal (Some (malformed kind bad)) e = cc
+no_refusal (Some too_many_securities) e = cc
+no_refusal (Some too_many_requests) e = cc
+
+module _ (files : Files) where
+  with_refuses : (plan : Plan) (hours : Result Entries (List ℕ)) → (backtest_with files plan hours).1 ≡ Algorithm → IsErr hours
+  with_refuses plan (Err word) e = refl
+  with_refuses plan (Ok hours) e = absurd (no_refusal (backtest_over files (setup_of plan hours)).stop e)
+
+  refuses_with : (plan : Plan) (hours : Result Entries (List ℕ)) → IsErr hours → (backtest_with files plan hours).1 ≡ Algorithm
+  refuses_with plan (Err word) e = refl
+  refuses_with plan (Ok hours) e = cc
+
+  backtest_refuses : (plan : Result Plan (List ℕ)) → (backtest_by files plan).1 ≡ Algorithm → RefusesPlan files plan
+  backtest_refuses (Err words) e = tt
+  backtest_refuses (Ok plan) e = with_refuses plan (hours_file files) e
+
+  refuses_backtest : (plan : Result Plan (List ℕ)) → RefusesPlan files plan → (backtest_by files plan).1 ≡ Algorithm
+  refuses_backtest (Err words) e = refl
+  refuses_backtest (Ok plan) e = refuses_with plan (hours_file files) e
+
+  module _ (IsSo : Option Halt → Type 0) (so : Status) (from : (halt : Option Halt) → halt_status halt ≡ so → IsSo halt)
+      (to : (halt : Option Halt) → IsSo halt → halt_status halt ≡ so) (not_files : Algorithm ≡ so → ⊥) where
+    with_halts : (plan : Plan) (hours : Result Entries (List ℕ)) → (backtest_with files plan hours).1 ≡ so → HaltsWith IsSo files plan hours
+    with_halts plan (Err word) e = absurd (not_files e)
+    with_halts plan (Ok hours) e = from (backtest_over files (setup_of plan hours)).stop e
+
+    halts_with : (plan : Plan) (hours : Result Entries (List ℕ)) → HaltsWith IsSo files plan hours → (backtest_with files plan hours).1 ≡ so
+    halts_with plan (Err word) is = absurd is
+    halts_with plan (Ok hours) is = to (backtest_over files (setup_of plan hours)).stop is
+
+    backtest_halts : (plan : Result Plan (List ℕ)) → (backtest_by files plan).1 ≡ so → HaltsBy IsSo files plan
+    backtest_halts (Err words) e = absurd (not_files e)
+    backtest_halts (Ok plan) e = with_halts plan (hours_file files) e
+
+    halts_backtest : (plan : Result Plan (List ℕ)) → HaltsBy IsSo files plan → (backtest_by files plan).1 ≡ so
+    halts_backtest (Err words) is = absurd is
+    halts_backtest (Ok plan) is = halts_with plan (hours_file files) is
+
+not_bad : Algorithm ≡ BadRow → ⊥
+not_bad e = cc
+
+not_limit : Algorithm ≡ Limit → ⊥
+not_limit e = cc
+
 module _ (files : Files) (resolution : Resolution) (window : Window) (symbols : List (List ℕ)) where
   abbrev whole : Entries → Ran (Unit {0}) SessionBar SessionRefusal
   whole hours = session (session_sources files hours resolution window symbols) window
@@ -48,6 +127,10 @@ module _ (files : Files) (resolution : Resolution) (window : Window) (symbols : 
   refuses_session (Err word) e = refl
   refuses_session (Ok hours) e = cc
 
+  no_session_limit : (hours : Result Entries (List ℕ)) → (session_with files resolution window symbols hours).1 ≡ Limit → ⊥
+  no_session_limit (Err word) e = cc
+  no_session_limit (Ok hours) e = no_limit (whole hours).stop e
+
   session_stops : (hours : Result Entries (List ℕ)) → (session_with files resolution window symbols hours).1 ≡ BadRow → StopsSession files resolution window symbols hours
   session_stops (Err word) e = cc
   session_stops (Ok hours) e = bad_row (whole hours).stop e
@@ -57,25 +140,41 @@ module _ (files : Files) (resolution : Resolution) (window : Window) (symbols : 
   stops_session (Ok hours) e = row_bad (whole hours).stop e
 
 module _ (files : Files) where
-  report_refuses : (asked : Option Asked) → (report_of files asked).1 ≡ Algorithm → RefusesHours files asked
+  report_refuses : (asked : Option Asked) → (report_of files asked).1 ≡ Algorithm → RefusesFiles files asked
   report_refuses None e = cc
   report_refuses (Some (DailyTape symbols)) e = no_hours (tape (securities files symbols)).stop e
   report_refuses (Some (SessionTape resolution window symbols)) e = session_refuses files resolution window symbols (hours_file files) e
+  report_refuses (Some (Backtest path workers)) e = backtest_refuses files (algorithm_in (files path)) e
 
-  refuses_report : (asked : Option Asked) → RefusesHours files asked → (report_of files asked).1 ≡ Algorithm
+  refuses_report : (asked : Option Asked) → RefusesFiles files asked → (report_of files asked).1 ≡ Algorithm
   refuses_report None e = absurd e
   refuses_report (Some (DailyTape symbols)) e = absurd e
   refuses_report (Some (SessionTape resolution window symbols)) e = refuses_session files resolution window symbols (hours_file files) e
+  refuses_report (Some (Backtest path workers)) e = refuses_backtest files (algorithm_in (files path)) e
 
   report_stops : (asked : Option Asked) → (report_of files asked).1 ≡ BadRow → HasBadRow files asked
   report_stops None e = cc
   report_stops (Some (DailyTape symbols)) e = bad_row (tape (securities files symbols)).stop e
   report_stops (Some (SessionTape resolution window symbols)) e = session_stops files resolution window symbols (hours_file files) e
+  report_stops (Some (Backtest path workers)) e = backtest_halts files IsBadRow BadRow halt_bad bad_halt not_bad (algorithm_in (files path)) e
 
   stops_report : (asked : Option Asked) → HasBadRow files asked → (report_of files asked).1 ≡ BadRow
   stops_report None e = absurd e
   stops_report (Some (DailyTape symbols)) e = row_bad (tape (securities files symbols)).stop e
   stops_report (Some (SessionTape resolution window symbols)) e = stops_session files resolution window symbols (hours_file files) e
+  stops_report (Some (Backtest path workers)) e = halts_backtest files IsBadRow BadRow halt_bad bad_halt not_bad (algorithm_in (files path)) e
+
+  report_limits : (asked : Option Asked) → (report_of files asked).1 ≡ Limit → HasLimit files asked
+  report_limits None e = cc
+  report_limits (Some (DailyTape symbols)) e = no_limit (tape (securities files symbols)).stop e
+  report_limits (Some (SessionTape resolution window symbols)) e = no_session_limit files resolution window symbols (hours_file files) e
+  report_limits (Some (Backtest path workers)) e = backtest_halts files IsLimit Limit halt_limit limit_halt not_limit (algorithm_in (files path)) e
+
+  limits_report : (asked : Option Asked) → HasLimit files asked → (report_of files asked).1 ≡ Limit
+  limits_report None is = absurd is
+  limits_report (Some (DailyTape symbols)) is = absurd is
+  limits_report (Some (SessionTape resolution window symbols)) is = absurd is
+  limits_report (Some (Backtest path workers)) is = halts_backtest files IsLimit Limit halt_limit limit_halt not_limit (algorithm_in (files path)) is
 
 module _ (old new : Seen) where
   abbrev pub Caused : Status → Type 0
@@ -185,10 +284,12 @@ module _ (old new : Seen) where
           only = λ is. only_refused (command words) status taken is;
           always = λ none. usage_comes old.told new.told status (refused none);
         };
-        algorithm = λ files told. exactly (RefusesHours files (command words)) Algorithm (report files words) old.told new.told status
+        algorithm = λ files told. exactly (RefusesFiles files (command words)) Algorithm (report files words) old.told new.told status
             (λ stop. stop) (report_refuses files (command words)) (refuses_report files (command words)) (delivers files told);
         bad_row = λ files told. exactly (HasBadRow files (command words)) BadRow (report files words) old.told new.told status
             (λ stop. stop) (report_stops files (command words)) (stops_report files (command words)) (delivers files told);
+        limit = λ files told. exactly (HasLimit files (command words)) Limit (report files words) old.told new.told status
+            (λ stop. stop) (report_limits files (command words)) (limits_report files (command words)) (delivers files told);
         read_fault = λ is. (let c : Caused ReadFault = subst Caused is cause in c);
         write_fault = λ is. (let c : Caused WriteFault = subst Caused is cause in c);
         whole_steps = λ is files before told at.

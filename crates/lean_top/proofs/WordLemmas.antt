@@ -1,5 +1,5 @@
 -- Words that are different symbols, word by word.
-use Rattle.std.proofs.Common.{◌≡◌, ℕ, ◌+◌, ◌<◌, Bool, true, false, List, [], ◌∷◌, ◌++◌, refl, sym, ap, ◌∙◌, inl, inr, length, get_or, take, drop, take-append-drop, Option, Some, None}
+use Rattle.std.proofs.Common.{◌≡◌, ℕ, ◌+◌, ◌<◌, ◌≤◌, Bool, true, false, List, [], ◌∷◌, ◌++◌, refl, sym, ap, ◌∙◌, inl, inr, length, get_or, take, drop, take-append-drop, arith, Option, Some, None}
 use Rattle.std.specs.Prelude.{not, ◌&&◌, ◌||◌, bytes_eq, if◌then◌else◌, map, String, string_bytes}
 use Rattle.std.specs.List.{list_any, list_all}
 use Rattle.std.proofs.lemmas.Bool.{cases_Bool}
@@ -8,7 +8,7 @@ use Rattle.std.proofs.Math.ListN.{get_or-map}
 use Rattle.std.proofs.lemmas.List.Folds.{list_any-append, list_all_more, list_all_at}
 use Rattle.std.specs.declared.alloc.Global.{Global}
 use Rattle.lean_fixed.specs.Symbol.{is_symbol}
-use Rattle.lean_top.specs.Command.{all_differ}
+use Rattle.lean_top.specs.Command.{all_differ, word_and_workers}
 
 regroup : (p q r s : Bool) → (not (p || (q || false)) && (r && not s)) ≡ ((not p && r) && not (q || s))
 regroup true q r s = refl
@@ -87,3 +87,11 @@ accepted false x y e = cc
 pub text_at : (words : List (String Global)) (i : ℕ) (word : String Global) → word ≡ get_or words i word
     → string_bytes word ≡ get_or (map string_bytes words) i (string_bytes word)
 text_at words i word is = ap string_bytes is ∙ sym (get_or-map string_bytes words i word)
+
+-- more than three words
+pub many_words : (words : List (String Global)) → 4 ≤ length words → None ≡ word_and_workers (map string_bytes words)
+many_words [] lt = absurd (let none : ⊥ = omega (arith, lt) in none)
+many_words (a ∷ []) lt = absurd (let none : ⊥ = omega (arith, lt) in none)
+many_words (a ∷ b ∷ []) lt = absurd (let none : ⊥ = omega (arith, lt) in none)
+many_words (a ∷ b ∷ c ∷ []) lt = absurd (let none : ⊥ = omega (arith, lt) in none)
+many_words (a ∷ b ∷ c ∷ d ∷ words) lt = refl

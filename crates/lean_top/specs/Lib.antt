@@ -3,6 +3,8 @@ pub mod Command
 pub mod Asked
 pub mod HoursRead
 pub mod HoursGiven
+pub mod AlgorithmRead
+pub mod AlgorithmGiven
 pub mod Report
 pub mod Ending
 pub mod Outcome

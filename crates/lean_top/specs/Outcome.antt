@@ -5,8 +5,10 @@ use Rattle.clock_steps.specs.Runs.{IsFrontOf}
 use Rattle.report_pages.specs.declared.pages.Stop.{Stop}
 use Rattle.report_pages.specs.declared.pages.Stop.TheVariants.{NoMemory as OutOfMemory, WriteFault as FailedWrite}
 use Rattle.lean_top.specs.declared.status.Status.{Status}
-use Rattle.lean_top.specs.declared.status.Status.TheVariants.{Usage, Algorithm, ReadFault, WriteFault, NoMemory, Limit}
+use Rattle.lean_top.specs.declared.status.Status.TheVariants.{Done, Usage, Algorithm, BadRow, ReadFault, WriteFault, NoMemory, Limit}
 use Rattle.report_pages.specs.declared.ended.Ended.{Ended}
+use Rattle.backtest_engine.specs.declared.ended.Ended.{Ended as RunEnded}
+use Rattle.backtest_engine.specs.declared.ended.Ended.TheVariants as run
 use Rattle.lean_top.specs.Report.{ended_status}
 use Rattle.report_pages.specs.Printed.{IsTaken, IsFront}
 
@@ -45,6 +47,15 @@ NamesNoUsage _ = Unit {0}
 abbrev pub tape_status : Result Ended Stop → Status
 tape_status (Ok ended) = ended_status ended
 tape_status (Err stop) = stop_status stop
+
+-- the status of a backtest, by how its run ended
+abbrev pub run_status : RunEnded → Status
+run_status run.Done = Done
+run_status run.BadRow = BadRow
+run_status run.ReadFault = ReadFault
+run_status run.WriteFault = WriteFault
+run_status run.NoMemory = NoMemory
+run_status run.Limit = Limit
 
 -- what the sink took of the line that refuses a file
 abbrev pub HasRefused : List ℕ → Option (List ℕ) → Option (List ℕ) → Status → Type 0

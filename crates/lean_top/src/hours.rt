@@ -5,9 +5,10 @@ ghost use Rattle.lean_io.specs.Whole.{IsReading, HasCause};
 ghost use Rattle.lean_top.specs.HoursRead.{hours_path, most_hours};
 ghost use Rattle.lean_top.specs.HoursGiven.{GivesHours, HasHoursCause, IsWordOf};
 
+use crate::files::read_file;
 use exchange_hours::{Hours, HoursFault};
 use lean_fixed::NoMemory;
-use lean_io::{Folder, Hand, Whole, read_whole};
+use lean_io::{Folder, Whole};
 use std::alloc::Global;
 
 /// Where the hours file lies, from the folder on.
@@ -35,20 +36,7 @@ pub fn read_hours<F: Folder>(alloc: Global, folder: &mut F) -> Result<HoursRead,
     ensures grows { F.faults folder.old ≤ F.faults folder.new }
     ensures hands { F.hands folder.new ≡ F.hands folder.old }
 {
-    let mut hand = folder.hand(alloc)?;
-    let read = hours_by(alloc, &mut hand);
-    folder.take_back(hand);
-    read
-}
-
-// Reads the hours file by a hand.
-fn hours_by<H: Hand>(alloc: Global, hand: &mut H) -> Result<HoursRead, NoMemory>
-    ensures told { IfOk result (λ read. (f : Files) → H.files hand.old ≡ Some f → GivesHours (f hours_path) read) }
-    ensures cause { IfOk result (λ read. HasHoursCause (H.faults hand.old) (H.faults hand.new) read) }
-    ensures kept { H.files hand.new ≡ H.files hand.old }
-    ensures grows { H.faults hand.old ≤ H.faults hand.new }
-{
-    match read_whole(alloc, hand, HOURS_PATH, MOST_BYTES) {
+    match read_file(alloc, folder, HOURS_PATH, MOST_BYTES) {
         Ok(whole) => hours_in(alloc, whole),
         Err(NoMemory) => Err(NoMemory),
     }

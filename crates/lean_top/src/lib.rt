@@ -3,7 +3,14 @@
 //! status names the cause.
 #![tactic(auto)]
 
+mod algorithm;
+mod backtest;
+#[cfg(test)]
+mod backtest_tests;
+mod fault_text;
+mod files;
 mod hours;
+mod refusal;
 mod report;
 mod session;
 #[cfg(test)]

@@ -7,6 +7,7 @@ ghost use Rattle.lean_top.specs.Command.{Asked, command};
 ghost use Rattle.lean_top.specs.Outcome.{HasReported, HasUsage, NamesNoUsage, Went};
 ghost use Rattle.lean_top.specs.Report.{report, report_of, daily_report_of, AreDaysOf, AreWholeSteps};
 
+use crate::backtest::backtest;
 use crate::session::session_tape;
 use crate::status::{Status, status_of};
 use crate::words::{Command, read_words};
@@ -58,6 +59,7 @@ fn run_command<F: Folder, S: Sink>(
         Command::SessionTape(resolution, window, symbols) => {
             session_tape(alloc, *resolution, *window, symbols, folder, out)
         }
+        Command::Backtest(path, workers) => backtest(alloc, path.as_str(), *workers, folder, out),
     }
 }
 

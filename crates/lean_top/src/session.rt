@@ -1,22 +1,22 @@
 //! The session tape: the bars of minute, hour or daily files that are in session, by their ends and then in the order of the
 //! words, behind the hours file.
-ghost use Rattle.std.specs.Prelude.{◌≡◌, ◌≤◌, Some, length, IfOk};
+ghost use Rattle.std.specs.Prelude.{◌≡◌, ◌≤◌, Some, length};
 ghost use Rattle.std.specs.Arc.{arc_value};
-ghost use Rattle.lean_io.specs.Told.{Files, Rose};
+ghost use Rattle.lean_io.specs.Told.{Files};
 ghost use Rattle.session_tape.specs.Session.{session_sources, session};
 ghost use Rattle.lean_top.specs.Asked.{IsInOrder};
 ghost use Rattle.lean_top.specs.Command.{SessionTape};
-ghost use Rattle.lean_top.specs.HoursRead.{hours_line};
-ghost use Rattle.lean_top.specs.Outcome.{HasReported, HasRefused, NamesNoUsage, Went};
+ghost use Rattle.lean_top.specs.Outcome.{HasReported, NamesNoUsage, Went};
 ghost use Rattle.lean_top.specs.Report.{report_of, session_report_of, AreWholeSteps, AreMinutesBy};
 
 use crate::hours::{HoursRead, read_hours};
+use crate::refusal::refuse_hours;
 use crate::status::{Status, status_of};
 use exchange_hours::Hours;
 use exchange_hours::laws::sessions_lie;
 use feed_pool::SerialPool;
 use lean_fixed::{NoMemory, Resolution, Symbol, Window};
-use lean_io::{Folder, Sink, WriteFault, write_whole};
+use lean_io::{Folder, Sink};
 use session_tape::laws::minutes_are_a_front;
 use session_tape::print_session;
 use std::alloc::Global;
@@ -43,7 +43,7 @@ pub fn session_tape<F: Folder, S: Sink>(
         Ok(HoursRead::Read(hours)) => {
             tape_by(alloc, hours, resolution, window, symbols, folder, out)
         }
-        Ok(HoursRead::Refused(word)) => print_refusal(alloc, word, out),
+        Ok(HoursRead::Refused(word)) => refuse_hours(alloc, word, out),
         Ok(HoursRead::Faulted) => Status::ReadFault,
         Err(NoMemory) => Status::NoMemory,
     }
@@ -103,30 +103,4 @@ fn tape_over<F: Folder, S: Sink>(
         }
         Err(NoMemory) => Status::NoMemory,
     }
-}
-
-// Prints the line that refuses the hours file.
-fn print_refusal<S: Sink>(alloc: Global, word: &str, out: &mut S) -> Status
-    ensures refused { HasRefused (hours_line word.now) (S.told out.old) (S.told out.new) result }
-    ensures cause { result ≡ Status.WriteFault → Rose (S.faults out.old) (S.faults out.new) }
-    ensures grows { S.faults out.old ≤ S.faults out.new }
-{
-    match refusal_text(alloc, word) {
-        Ok(text) => match write_whole(out, &text) {
-            Ok(()) => Status::Algorithm,
-            Err(WriteFault) => Status::WriteFault,
-        },
-        Err(NoMemory) => Status::NoMemory,
-    }
-}
-
-#[tactic(auto, unfolding(crate::specs::HoursRead::hours_line))]
-fn refusal_text(alloc: Global, word: &str) -> Result<Vec<u8>, NoMemory>
-    ensures { IfOk result (λ text. text.items ≡ hours_line word.now) }
-{
-    let mut text = Vec::new(alloc);
-    text.extend_from_slice(b"hours ")?;
-    text.extend_from_slice(word.as_bytes())?;
-    text.push(b'\n')?;
-    Ok(text)
 }

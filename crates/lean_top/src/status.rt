@@ -1,7 +1,8 @@
 ghost use Rattle.std.specs.Prelude.{◌≡◌};
-ghost use Rattle.lean_top.specs.Outcome.{tape_status};
+ghost use Rattle.lean_top.specs.Outcome.{tape_status, run_status, NamesNoUsage};
 ghost use Rattle.lean_top.specs.Status.{code_of};
 
+use backtest_engine::Ended as RunEnded;
 use report_pages::{Ended, Stop};
 
 /// How a command ended.
@@ -53,5 +54,20 @@ pub(crate) fn status_of(ended: Result<Ended, Stop>) -> Status
         Ok(Ended::ReadFault) => Status::ReadFault,
         Err(Stop::NoMemory) => Status::NoMemory,
         Err(Stop::WriteFault) => Status::WriteFault,
+    }
+}
+
+// The status of a backtest, by how its run ended.
+pub(crate) fn run_status_of(ended: RunEnded) -> Status
+    ensures status { result ≡ run_status ended }
+    ensures taken { NamesNoUsage result }
+{
+    match ended {
+        RunEnded::Done => Status::Done,
+        RunEnded::BadRow => Status::BadRow,
+        RunEnded::ReadFault => Status::ReadFault,
+        RunEnded::WriteFault => Status::WriteFault,
+        RunEnded::NoMemory => Status::NoMemory,
+        RunEnded::Limit => Status::Limit,
     }
 }

@@ -47,10 +47,13 @@ fn bytes_of(alloc: Global, text: &str) -> Result<Vec<u8>, AllocError> {
     Ok(bytes)
 }
 
-// The path of a file of that name: `hours`, or `daily/spy`, or `07/spy` for the minutes of 2013-10-07.
+// The path of a file of that name: `hours`, `plan` for an algorithm file, or `daily/spy`, or `07/spy` for the minutes of 2013-10-07.
 fn path_of(alloc: Global, name: &str) -> Result<String, Fail> {
     if name == "hours" {
         return Ok(String::from_str(alloc, "market-hours/market-hours-database.json")?);
+    }
+    if name == "plan" {
+        return Ok(String::from_str(alloc, "a.toml")?);
     }
     let mut path = String::from_str(alloc, "equity/usa/")?;
     let (folder, symbol) = name.split_once('/').ok_or("no symbol")?;
@@ -147,8 +150,6 @@ tape, daily/spy:20131007_00:00*1; = 1 usage;
 tape spy, daily/spy:20131007_00:00*1; = 1 usage;
 tape SPY SPY, daily/spy:20131007_00:00*1; = 1 usage;
 tape minute 20131008 20131007 SPY, daily/spy:20131007_00:00*1; = 1 usage;
-backtest a.toml --workers 65, daily/spy:20131007_00:00*1; = 1 usage;
-backtest a.toml -x, daily/spy:20131007_00:00*1; = 1 usage;
 ";
 
 // Each case through both calls, and through hands that read one byte at a time into a sink that takes one byte at a time.

@@ -11,11 +11,13 @@ use std::thread::Threads;
 
 /// Runs a command line over a folder and prints its report into the sink, without threads. It always returns.
 ///
-/// The words are those behind the program's name: so far `tape` and 1 to 64 different symbols, for the daily tape, or `tape`,
-/// a resolution, two days and such symbols, for the session tape.
-/// `Usage`: the words are others; the line is `usage`. `Algorithm`: the hours file of a session tape is missing, too large or
-/// refused; a line says why. `BadRow`: a line of a file is malformed; the lines of the dates or moments before it were
-/// printed, and then the line that names it. `ReadFault`: a read failed; the lines of whole days or moments were printed.
+/// The words are those behind the program's name: so far `tape` and 1 to 64 different symbols, for the daily tape; `tape`, a
+/// resolution, two days and such symbols, for the session tape; or `backtest` and a path, for the backtest of the algorithm
+/// file there, with `--workers K` or `--workers=K` in front of the path or behind it, K from 0 to 64 in one or two digits.
+/// `Usage`: the words are others; the line is `usage`. `Algorithm`: the algorithm file, or else the hours file of a session tape
+/// or a backtest, is missing, too large or refused; a line says why. `BadRow`: a line of a file is malformed; the lines of the
+/// dates or moments before it were printed, and then the line that names it. `Limit`: a backtest has no room for one more
+/// security or request; a line names the limit. `ReadFault`: a read failed; the lines of whole days or moments were printed.
 /// `WriteFault`: a write failed, and the sink took a front of the report. `NoMemory`: memory that was asked for is not
 /// there, and the sink took a front of the report.
 pub fn lean_offline<F: Folder, S: Sink>(

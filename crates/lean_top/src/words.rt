@@ -1,18 +1,21 @@
 //! The words of a command line, read by hand.
-ghost use Rattle.std.specs.Prelude.{◌≡◌, ◌<◌, ◌≤◌, ◌&&◌, if◌then◌else◌, None, Some, unsigned_abs, IfOk, IfSome, map, length, option_map, string_bytes};
+ghost use Rattle.std.specs.Prelude.{◌≡◌, ◌<◌, ◌≤◌, ◌&&◌, codes, if◌then◌else◌, None, Some, unsigned_abs, IfOk, IfSome, map, length, option_map, string_bytes};
 ghost use Rattle.std.specs.List.{list_all};
 ghost use Rattle.lean_fixed.specs.Calendar.{last_day};
 ghost use Rattle.lean_fixed.specs.Ranges.{IsDay};
 ghost use Rattle.lean_fixed.specs.Symbol.{is_symbol};
 ghost use Rattle.lean_top.specs.Asked.{asked_by, IsAsked, IsInOrder};
-ghost use Rattle.lean_top.specs.Command.{command, all_differ, symbols_of, resolution_of, window_day, window_from, window_of, session_words};
+ghost use Rattle.lean_top.specs.Command.{command, all_differ, symbols_of, resolution_of, window_day, window_from, window_of, session_words, tape_words, is_plain, workers_of, workers_in, workers_by, with_number, word_and_workers, or_else, backtest_words};
 
 use lean_fixed::ranges::LAST_DAY;
-use lean_fixed::{Day, NoMemory, Resolution, Symbol, Window};
+use lean_fixed::{Day, NoMemory, Resolution, Symbol, Window, read_digits};
 use std::alloc::Global;
 
 /// The most symbols of a tape.
 const MOST_SYMBOLS: usize = 64;
+
+/// The most workers of a backtest.
+const MOST_WORKERS: u64 = 64;
 
 /// What the words ask for.
 #[derive(Drop)]
@@ -21,6 +24,8 @@ pub enum Command {
     DailyTape(Vec<Symbol>),
     /// The session tape of bars of a resolution, over a window, of these symbols.
     SessionTape(Resolution, Window, Vec<Symbol>),
+    /// The backtest of the algorithm file at this path, with so many workers.
+    Backtest(String, u32),
 }
 
 /// What the words ask for. `None` exactly where they are none that are taken.
@@ -32,12 +37,24 @@ pub fn read_words(alloc: Global, words: &[String]) -> Result<Option<Command>, No
     let Some((name, rest)) = words.split_first() else {
         return Ok(None);
     };
-    if name.as_str() != "tape" {
-        return Ok(None);
+    if name.as_str() == "tape" {
+        return read_tape(alloc, rest);
     }
-    match read_symbols(alloc, rest) {
+    if name.as_str() == "backtest" {
+        return read_backtest(alloc, rest);
+    }
+    Ok(None)
+}
+
+// What `tape` and these words ask for.
+fn read_tape(alloc: Global, words: &[String]) -> Result<Option<Command>, NoMemory>
+    ensures asked { IfOk result
+        (λ found. option_map asked_by found ≡ tape_words (map string_bytes words.now)) }
+    ensures few { IfOk result (λ found. IfSome found IsAsked) }
+{
+    match read_symbols(alloc, words) {
         Ok(Some(symbols)) => Ok(Some(Command::DailyTape(symbols))),
-        Ok(None) => read_session(alloc, rest),
+        Ok(None) => read_session(alloc, words),
         Err(NoMemory) => Err(NoMemory),
     }
 }
@@ -168,4 +185,119 @@ fn read_different(alloc: Global, words: &[String]) -> Result<Option<Vec<Symbol>>
         symbols.push(symbol)?;
     }
     Ok(Some(symbols))
+}
+
+// What `backtest` and these words ask for.
+fn read_backtest(alloc: Global, words: &[String]) -> Result<Option<Command>, NoMemory>
+    ensures asked { IfOk result
+        (λ found. option_map asked_by found ≡ backtest_words (map string_bytes words.now)) }
+    ensures few { IfOk result (λ found. IfSome found IsAsked) }
+{
+    let Some(found) = read_word_and_workers(words) else {
+        return Ok(None);
+    };
+    let path = String::from_str(alloc, found.0)?;
+    Ok(Some(Command::Backtest(path, found.1)))
+}
+
+// A plain word, and the number of workers where `--workers=K` or `--workers K` stands in front of it or behind it, or else 0.
+fn read_word_and_workers(words: &[String]) -> Option<(&str, u32)>
+    ensures value { option_map (λ found. (found.0.now, found.1)) result ≡ word_and_workers (map string_bytes words.now) }
+    ensures few { IfSome result (λ found. found.1 ≤ 64) }
+{
+    match words {
+        [word] => plain_with(word.as_str(), Some(0)),
+        [first, second] => read_two(first.as_str(), second.as_str()),
+        [first, second, third] => read_three(first.as_str(), second.as_str(), third.as_str()),
+        [] => None,
+        [_, _, _, _, ..] => None,
+    }
+}
+
+// `PATH --workers=K` or `--workers=K PATH`.
+fn read_two<'w>(first: &'w str, second: &'w str) -> Option<(&'w str, u32)>
+    ensures value { option_map (λ found. (found.0.now, found.1)) result
+        ≡ or_else (with_number first.now (workers_in second.now)) (with_number second.now (workers_in first.now)) }
+    ensures few { IfSome result (λ found. found.1 ≤ 64) }
+{
+    match plain_with(first, read_workers_in(second.as_bytes())) {
+        Some(found) => Some(found),
+        None => plain_with(second, read_workers_in(first.as_bytes())),
+    }
+}
+
+// `PATH --workers K` or `--workers K PATH`.
+fn read_three<'w>(first: &'w str, second: &'w str, third: &'w str) -> Option<(&'w str, u32)>
+    ensures value { option_map (λ found. (found.0.now, found.1)) result
+        ≡ or_else (with_number first.now (workers_by second.now third.now)) (with_number third.now (workers_by first.now second.now)) }
+    ensures few { IfSome result (λ found. found.1 ≤ 64) }
+{
+    match plain_with(first, read_workers_by(second.as_bytes(), third.as_bytes())) {
+        Some(found) => Some(found),
+        None => plain_with(third, read_workers_by(first.as_bytes(), second.as_bytes())),
+    }
+}
+
+// The word with the number of workers, where there is one and the word is plain.
+fn plain_with(word: &str, workers: Option<u32>) -> Option<(&str, u32)>
+    requires { IfSome workers (λ count. count ≤ 64) }
+    ensures value { option_map (λ found. (found.0.now, found.1)) result ≡ with_number word.now workers }
+    ensures few { IfSome result (λ found. found.1 ≤ 64) }
+{
+    let Some(count) = workers else {
+        return None;
+    };
+    if !is_plain_word(word.as_bytes()) {
+        return None;
+    }
+    Some((word, count))
+}
+
+// Whether a word is not empty, and no option.
+fn is_plain_word(word: &[u8]) -> bool
+    ensures { result ≡ is_plain word.now }
+{
+    match word {
+        [] => false,
+        [first, ..] => *first != b'-',
+    }
+}
+
+// The number in `--workers=K`.
+fn read_workers_in(word: &[u8]) -> Option<u32>
+    ensures value { result ≡ workers_in word.now }
+    ensures few { IfSome result (λ count. count ≤ 64) }
+{
+    match word.strip_prefix(b"--workers=".as_slice()) {
+        Some(number) => read_workers(number),
+        None => None,
+    }
+}
+
+// The number in `--workers K`.
+fn read_workers_by(name: &[u8], number: &[u8]) -> Option<u32>
+    ensures value { result ≡ workers_by name.now number.now }
+    ensures few { IfSome result (λ count. count ≤ 64) }
+{
+    if name != b"--workers".as_slice() {
+        return None;
+    }
+    read_workers(number)
+}
+
+// The number of workers that one or two digits say, at most 64.
+fn read_workers(text: &[u8]) -> Option<u32>
+    ensures value { result ≡ workers_of text.now }
+    ensures few { IfSome result (λ count. count ≤ 64) }
+{
+    if text.len() > 2 {
+        return None;
+    }
+    let Some(count) = read_digits(text) else {
+        return None;
+    };
+    if count > MOST_WORKERS {
+        return None;
+    }
+    Some(count as u32)
 }

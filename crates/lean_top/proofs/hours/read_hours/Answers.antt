@@ -7,7 +7,7 @@ use Rattle.lean_fixed.specs.declared.memory.NoMemory.{NoMemory}
 use Rattle.lean_top.specs.declared.hours.HoursRead.{HoursRead}
 use Rattle.lean_top.specs.HoursRead.{hours_path, most_hours}
 use Rattle.lean_top.specs.HoursGiven.{GivesHours}
-use Rattle.lean_top.proofs.hours.hours_by.Goals as goal
+use Rattle.lean_top.proofs.hours.read_hours.Goals as goal
 
 gives : (r : Result HoursRead NoMemory) (whole : Whole) (told : Option Files)
     → IfOk r (λ read. (file : Option (List ℕ)) → IsReading file most_hours whole → GivesHours file read)
@@ -18,4 +18,4 @@ gives (Err e) whole told h reads = tt
 
 pub returns-in-Ok-clause-told : goal.returns-in-Ok-clause-told
 unfolding hours_path
-returns-in-Ok-clause-told g c = gives c.hours_in.result c.in-Ok.whole (g.H.Hand.files c.args.hand.now) c.hours_in.ensures.told c.in-Ok.ensures.told
+returns-in-Ok-clause-told g c = gives c.hours_in.result c.in-Ok.whole (g.F.Folder.files c.args.folder.now) c.hours_in.ensures.told c.in-Ok.ensures.told

@@ -2,7 +2,7 @@
 use Rattle.std.proofs.Common.{◌∙◌, subst}
 use Rattle.report_pages.specs.Printed.{IsFront}
 use Rattle.report_pages.proofs.PrintedLemmas.{IsFront-take}
-use Rattle.lean_top.proofs.session.print_refusal.Goals as goal
+use Rattle.lean_top.proofs.refusal.print_refusal.Goals as goal
 
 pub returns-in-Ok-clause-refused : goal.returns-in-Ok-clause-refused
 returns-in-Ok-clause-refused g c =
