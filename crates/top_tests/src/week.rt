@@ -1,0 +1,136 @@
+//! The worked report of five days, where a read of one of its files fails, or a write.
+
+use crate::folders::{add, begun, path_of};
+use crate::running::{add_other, with_failing_call, with_failing_write};
+use std::alloc::Global;
+use std::collections::BTreeMap;
+use std::fmt::Write;
+use std::test::Fail;
+use test_cases::cases::{check, compare};
+
+const PLAN: &str = r#"
+start = "20131007"
+end = "20131011"
+cash = "100000"
+fee-per-share = "0.005"
+fee-minimum = "1"
+[[securities]]
+symbol = "SPY"
+resolution = "minute"
+period = 15
+[[rules]]
+when = "close > sma(4) and position == 0"
+do = "order"
+kind = "market"
+quantity = "100"
+[[rules]]
+when = "close < sma(4) and position > 0"
+do = "order"
+kind = "market"
+quantity = "0 - position"
+"#;
+
+// The price of all minutes of a day.
+const DAYS: &str = "\
+spy/20131007 1670000
+spy/20131008 1680000
+spy/20131009 1660000
+spy/20131010 1650000
+spy/20131011 1690000
+";
+
+// The lines of eight moments, and the summary.
+const REPORT: &str = "\
+20131007 16:00 close cash 100000.0000 equity 100000.0000
+
+20131008 09:45 order 1 SPY submitted market 100 -
+20131008 09:45 order 1 SPY filled 100 168.0000 fee 1.0000
+
+20131008 16:00 close cash 83199.0000 equity 99999.0000
+
+20131009 09:45 order 2 SPY submitted market -100 -
+20131009 09:45 order 2 SPY filled -100 166.0000 fee 1.0000
+
+20131009 16:00 close cash 99798.0000 equity 99798.0000
+
+20131010 16:00 close cash 99798.0000 equity 99798.0000
+
+20131011 09:45 order 3 SPY submitted market 100 -
+20131011 09:45 order 3 SPY filled 100 169.0000 fee 1.0000
+
+20131011 16:00 close cash 82897.0000 equity 99797.0000
+
+end 3 orders 3 fills 0 open
+fees 3.0000
+realised -200.0000
+cash 82897.0000
+equity 99797.0000
+drawdown 203.0000
+hold SPY 100 169.0000";
+
+fn files_of_week(alloc: Global) -> Result<BTreeMap<String, Vec<u8>>, Fail> {
+    let mut files = begun(alloc, PLAN)?;
+    for day in DAYS.lines() {
+        add_day(alloc, &mut files, day)?;
+    }
+    Ok(files)
+}
+
+fn add_day(alloc: Global, files: &mut BTreeMap<String, Vec<u8>>, day: &str) -> Result<(), Fail> {
+    let (name, price) = day.split_once(' ').ok_or("no price")?;
+    let path = path_of(alloc, name)?;
+    let minutes = minutes_at(alloc, price)?;
+    add(alloc, files, &path, &minutes)
+}
+
+// The minutes from 09:30 to 15:59 at one price.
+fn minutes_at(alloc: Global, price: &str) -> Result<String, Fail> {
+    let mut minutes = String::new(alloc);
+    for minute in 570u32..960 {
+        let start = minute * 60_000;
+        write!(minutes, "{start},{price},{price},{price},{price},1000\n")?;
+    }
+    Ok(minutes)
+}
+
+// Each of the first 201 calls of a file fails in turn: the status and the number of moments whose lines were printed, calls that
+// come to the same told once. Behind the last call that is made nothing fails.
+const FAILING_CALLS: &str = "\
+spy/20131007 = 4 0, 4 1, 0 whole
+spy/20131008 = 4 1, 4 2, 4 3, 0 whole
+spy/20131009 = 4 3, 4 4, 4 5, 0 whole
+spy/20131010 = 4 5, 4 6, 0 whole
+spy/20131011 = 4 6, 4 7, 4 8, 0 whole
+";
+
+fn failing_calls(alloc: Global, name: &str) -> Result<String, Fail> {
+    let mut told = String::new(alloc);
+    for call in 0u64..201 {
+        let files = files_of_week(alloc)?;
+        let answer = with_failing_call(alloc, files, name, call, REPORT)?;
+        add_other(&mut told, &answer)?;
+    }
+    Ok(told)
+}
+
+#[test]
+fn failing_reads_of_a_week(rt: HostRuntime) -> Result<(), Fail> {
+    check(rt.alloc(), FAILING_CALLS, failing_calls)
+}
+
+// Each of the first 80 writes fails in turn.
+fn failing_writes(alloc: Global) -> Result<String, Fail> {
+    let mut told = String::new(alloc);
+    for write in 1usize..81 {
+        let files = files_of_week(alloc)?;
+        let answer = with_failing_write(alloc, files, write, REPORT)?;
+        add_other(&mut told, &answer)?;
+    }
+    Ok(told)
+}
+
+#[test]
+fn failing_writes_of_a_week(rt: HostRuntime) -> Result<(), Fail> {
+    let told = failing_writes(rt.alloc())?;
+    compare(rt.alloc(), "writes", &told, "5 front, 0 whole")
+}
