@@ -6,3 +6,5 @@ pub mod Running
 pub mod TapeLemmas
 pub mod BacktestLemmas
 pub mod RunLemmas
+pub mod KeptLemmas
+pub mod DemoLemmas

@@ -12,14 +12,15 @@ use Rattle.report_pages.specs.Ended.{ended_by}
 use Rattle.session_tape.specs.Session.{SessionBar, Refusal as SessionRefusal, session_sources, session}
 use Rattle.lean_top.specs.declared.status.Status.{Status}
 use Rattle.lean_top.specs.declared.status.Status.TheVariants.{Done, Usage, Algorithm, BadRow, ReadFault, WriteFault, NoMemory, Limit}
-use Rattle.lean_top.specs.Command.{Asked, DailyTape, SessionTape, Backtest, command}
+use Rattle.lean_top.specs.Command.{Asked, DailyTape, SessionTape, Backtest, Demo, command}
 use Rattle.daily_tape.specs.DailyTape.{securities, tape}
 use Rattle.lean_top.specs.Ending.{Seen, IsStop, Meets, IsComplete, ComesExactly, RefusesPlan, RefusesFiles, StopsSession, IsBadRow, IsLimit, HaltsWith, HaltsBy, HasBadRow, HasLimit, HasRun}
 use Rattle.lean_top.specs.HoursRead.{hours_file}
 use Rattle.lean_top.specs.AlgorithmRead.{algorithm_in}
 use Rattle.lean_top.specs.Outcome.{HasReported, HasUsage, HasStatusCause, NamesNoUsage}
 use Rattle.report_pages.specs.Printed.{IsTaken, IsFront}
-use Rattle.lean_top.specs.Report.{report, report_of, ended_status, session_with, halt_status, setup_of, backtest_over, backtest_with, backtest_by, AreWholeSteps}
+use Rattle.lean_top.specs.Report.{report, report_of, ended_status, session_with, halt_status, setup_of, backtest_over, backtest_with, backtest_by, made_folder, AreWholeSteps}
+use Rattle.data_maker.specs.MadeFiles.{plan_path}
 
 -- the sink took the whole report and the status is the report's, or it took a front of it and the status is a stop
 abbrev pub Delivers : List ℕ × Status → Option (List ℕ) → Option (List ℕ) → Seen → Seen → Status → Type 0
@@ -145,36 +146,46 @@ module _ (files : Files) where
   report_refuses (Some (DailyTape symbols)) e = no_hours (tape (securities files symbols)).stop e
   report_refuses (Some (SessionTape resolution window symbols)) e = session_refuses files resolution window symbols (hours_file files) e
   report_refuses (Some (Backtest path workers)) e = backtest_refuses files (algorithm_in (files path)) e
+  report_refuses (Some (Demo number workers)) e = backtest_refuses (made_folder number) (algorithm_in (made_folder number plan_path)) e
 
   refuses_report : (asked : Option Asked) → RefusesFiles files asked → (report_of files asked).1 ≡ Algorithm
   refuses_report None e = absurd e
   refuses_report (Some (DailyTape symbols)) e = absurd e
   refuses_report (Some (SessionTape resolution window symbols)) e = refuses_session files resolution window symbols (hours_file files) e
   refuses_report (Some (Backtest path workers)) e = refuses_backtest files (algorithm_in (files path)) e
+  refuses_report (Some (Demo number workers)) e = refuses_backtest (made_folder number) (algorithm_in (made_folder number plan_path)) e
 
   report_stops : (asked : Option Asked) → (report_of files asked).1 ≡ BadRow → HasBadRow files asked
   report_stops None e = cc
   report_stops (Some (DailyTape symbols)) e = bad_row (tape (securities files symbols)).stop e
   report_stops (Some (SessionTape resolution window symbols)) e = session_stops files resolution window symbols (hours_file files) e
   report_stops (Some (Backtest path workers)) e = backtest_halts files IsBadRow BadRow halt_bad bad_halt not_bad (algorithm_in (files path)) e
+  report_stops (Some (Demo number workers)) e =
+      backtest_halts (made_folder number) IsBadRow BadRow halt_bad bad_halt not_bad (algorithm_in (made_folder number plan_path)) e
 
   stops_report : (asked : Option Asked) → HasBadRow files asked → (report_of files asked).1 ≡ BadRow
   stops_report None e = absurd e
   stops_report (Some (DailyTape symbols)) e = row_bad (tape (securities files symbols)).stop e
   stops_report (Some (SessionTape resolution window symbols)) e = stops_session files resolution window symbols (hours_file files) e
   stops_report (Some (Backtest path workers)) e = halts_backtest files IsBadRow BadRow halt_bad bad_halt not_bad (algorithm_in (files path)) e
+  stops_report (Some (Demo number workers)) e =
+      halts_backtest (made_folder number) IsBadRow BadRow halt_bad bad_halt not_bad (algorithm_in (made_folder number plan_path)) e
 
   report_limits : (asked : Option Asked) → (report_of files asked).1 ≡ Limit → HasLimit files asked
   report_limits None e = cc
   report_limits (Some (DailyTape symbols)) e = no_limit (tape (securities files symbols)).stop e
   report_limits (Some (SessionTape resolution window symbols)) e = no_session_limit files resolution window symbols (hours_file files) e
   report_limits (Some (Backtest path workers)) e = backtest_halts files IsLimit Limit halt_limit limit_halt not_limit (algorithm_in (files path)) e
+  report_limits (Some (Demo number workers)) e =
+      backtest_halts (made_folder number) IsLimit Limit halt_limit limit_halt not_limit (algorithm_in (made_folder number plan_path)) e
 
   limits_report : (asked : Option Asked) → HasLimit files asked → (report_of files asked).1 ≡ Limit
   limits_report None is = absurd is
   limits_report (Some (DailyTape symbols)) is = absurd is
   limits_report (Some (SessionTape resolution window symbols)) is = absurd is
   limits_report (Some (Backtest path workers)) is = halts_backtest files IsLimit Limit halt_limit limit_halt not_limit (algorithm_in (files path)) is
+  limits_report (Some (Demo number workers)) is =
+      halts_backtest (made_folder number) IsLimit Limit halt_limit limit_halt not_limit (algorithm_in (made_folder number plan_path)) is
 
 module _ (old new : Seen) where
   abbrev pub Caused : Status → Type 0

@@ -1,5 +1,5 @@
 -- The words of a command line.
-use Rattle.std.specs.Prelude.{ℕ, ◌-◌, Bool, false, true, not, ◌&&◌, ◌==◌, nat_le, bytes_eq, take, drop, if◌then◌else◌, pos, List, [], ◌∷◌, length, Option, Some, None, option_and_then, codes}
+use Rattle.std.specs.Prelude.{ℕ, ◌-◌, Bool, false, true, not, ◌&&◌, ◌==◌, nat_le, bytes_eq, take, drop, if◌then◌else◌, pos, List, [], ◌∷◌, length, Option, Some, None, option_map, option_and_then, codes}
 use Rattle.std.specs.List.{list_all, list_any}
 use Rattle.lean_fixed.specs.Calendar.{last_day, day_of_digits}
 use Rattle.lean_fixed.specs.Digits.{digits}
@@ -8,12 +8,13 @@ use Rattle.lean_fixed.specs.declared.resolution.Resolution.{Resolution}
 use Rattle.lean_fixed.specs.declared.resolution.Resolution.TheVariants.{Minute, Hour, Daily}
 use Rattle.lean_fixed.specs.declared.time.Window.{Window}
 
--- what is asked for: the daily tape of some symbols, the session tape of a resolution and a window, or the backtest of the
--- algorithm file at a path, with so many workers
+-- what is asked for: the daily tape of some symbols, the session tape of a resolution and a window, the backtest of the
+-- algorithm file at a path, with so many workers, or the demo of a number, with so many workers
 pub data Asked : Type 0 where
   DailyTape : List (List ℕ) → Asked
   SessionTape : Resolution → Window → List (List ℕ) → Asked
   Backtest : List ℕ → ℕ → Asked
+  Demo : ℕ → ℕ → Asked
 
 -- no text stands twice
 abbrev pub all_differ : List (List ℕ) → Bool
@@ -120,9 +121,22 @@ backtest_of (Some (path, workers)) = Some (Backtest path workers)
 abbrev pub backtest_words : List (List ℕ) → Option Asked
 backtest_words words = backtest_of (word_and_workers words)
 
+-- the number that one to six digits say
+abbrev pub demo_number : List ℕ → Option ℕ
+demo_number text = if nat_le (length text) 6 then digits text else None
+
+abbrev pub demo_of : Option (List ℕ × ℕ) → Option Asked
+demo_of None = None
+demo_of (Some (text, workers)) = option_map (λ number. Demo number workers) (demo_number text)
+
+-- what `demo` and these words ask for
+abbrev pub demo_words : List (List ℕ) → Option Asked
+demo_words words = demo_of (word_and_workers words)
+
 -- what the words of a command line ask for, or nothing where they are none that are taken
 abbrev pub command : List (List ℕ) → Option Asked
 command [] = None
 command (name ∷ words) =
     if bytes_eq name (codes "tape") then tape_words words
-    else (if bytes_eq name (codes "backtest") then backtest_words words else None)
+    else (if bytes_eq name (codes "backtest") then backtest_words words
+    else (if bytes_eq name (codes "demo") then demo_words words else None))

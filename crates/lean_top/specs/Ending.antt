@@ -10,11 +10,12 @@ use Rattle.rule_strategy.specs.declared.plan.Plan.{Plan}
 use Rattle.session_tape.specs.Session.{session_sources, session}
 use Rattle.lean_top.specs.declared.status.Status.{Status}
 use Rattle.lean_top.specs.declared.status.Status.TheVariants.{Usage, Algorithm, BadRow, ReadFault, WriteFault, NoMemory, Limit}
-use Rattle.lean_top.specs.Command.{Asked, DailyTape, SessionTape, Backtest, command}
+use Rattle.lean_top.specs.Command.{Asked, DailyTape, SessionTape, Backtest, Demo, command}
 use Rattle.daily_tape.specs.DailyTape.{securities, tape}
 use Rattle.lean_top.specs.HoursRead.{hours_file}
 use Rattle.lean_top.specs.AlgorithmRead.{algorithm_in}
-use Rattle.lean_top.specs.Report.{setup_of, backtest_over, report, AreWholeSteps}
+use Rattle.data_maker.specs.MadeFiles.{plan_path}
+use Rattle.lean_top.specs.Report.{setup_of, backtest_over, made_folder, report, AreWholeSteps}
 
 -- What is seen of a folder and a sink at one time: the files, where the folder tells them, the bytes, where the sink tells
 -- them, and both counts of faults.
@@ -60,12 +61,13 @@ RefusesPlan files (Err words) = Unit {0}
 RefusesPlan files (Ok plan) = IsErr (hours_file files)
 
 -- the words ask for a session tape or a backtest, and a file that it reads first is missing, too large or refused: the hours
--- file, or the algorithm file of a backtest
+-- file, or the algorithm file of a backtest; a demo is the backtest of the folder that is made from its number
 abbrev pub RefusesFiles : Files → Option Asked → Type 0
 RefusesFiles files None = ⊥
 RefusesFiles files (Some (DailyTape symbols)) = ⊥
 RefusesFiles files (Some (SessionTape resolution window symbols)) = IsErr (hours_file files)
 RefusesFiles files (Some (Backtest path workers)) = RefusesPlan files (algorithm_in (files path))
+RefusesFiles files (Some (Demo number workers)) = RefusesPlan (made_folder number) (algorithm_in (made_folder number plan_path))
 
 -- a malformed line stops the session tape, where its hours are read
 abbrev pub StopsSession : Files → Resolution → Window → List (List ℕ) → Result Entries (List ℕ) → Type 0
@@ -95,19 +97,21 @@ abbrev pub HaltsBy : (Option Halt → Type 0) → Files → Result Plan (List �
 HaltsBy IsSo files (Err words) = ⊥
 HaltsBy IsSo files (Ok plan) = HaltsWith IsSo files plan (hours_file files)
 
--- the words ask for a tape or a backtest, and a malformed line stops it
+-- the words ask for a tape, a backtest or a demo, and a malformed line stops it
 abbrev pub HasBadRow : Files → Option Asked → Type 0
 HasBadRow files None = ⊥
 HasBadRow files (Some (DailyTape symbols)) = IsSome (tape (securities files symbols)).stop
 HasBadRow files (Some (SessionTape resolution window symbols)) = StopsSession files resolution window symbols (hours_file files)
 HasBadRow files (Some (Backtest path workers)) = HaltsBy IsBadRow files (algorithm_in (files path))
+HasBadRow files (Some (Demo number workers)) = HaltsBy IsBadRow (made_folder number) (algorithm_in (made_folder number plan_path))
 
--- the words ask for a backtest, and a limit stops it
+-- the words ask for a backtest or a demo, and a limit stops it
 abbrev pub HasLimit : Files → Option Asked → Type 0
 HasLimit files None = ⊥
 HasLimit files (Some (DailyTape symbols)) = ⊥
 HasLimit files (Some (SessionTape resolution window symbols)) = ⊥
 HasLimit files (Some (Backtest path workers)) = HaltsBy IsLimit files (algorithm_in (files path))
+HasLimit files (Some (Demo number workers)) = HaltsBy IsLimit (made_folder number) (algorithm_in (made_folder number plan_path))
 
 -- what was printed is the lines of whole days or moments, up to some one, or nothing
 abbrev pub PrintsWholeSteps : Files → List (List ℕ) → List ℕ → Option (List ℕ) → Type 0

@@ -5,6 +5,9 @@ pub mod HoursRead
 pub mod HoursGiven
 pub mod AlgorithmRead
 pub mod AlgorithmGiven
+pub mod CloseTail
+pub mod Kept
 pub mod Report
+pub mod DemoEnd
 pub mod Ending
 pub mod Outcome

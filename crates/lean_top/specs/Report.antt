@@ -1,5 +1,5 @@
 -- The report of a command line over the files of a folder: what is printed, and the status.
-use Rattle.std.specs.Prelude.{◌≡◌, ℕ, ◌+◌, ◌-◌, ◌≤◌, ◌⊎◌, List, [], codes, flat_map, Option, Some, None, Result, Ok, Err}
+use Rattle.std.specs.Prelude.{◌≡◌, ℕ, ◌+◌, ◌-◌, ◌≤◌, ◌⊎◌, List, [], ◌∷◌, ◌++◌, codes, decimal, flat_map, Option, Some, None, Result, Ok, Err}
 use Rattle.lean_fixed.specs.declared.resolution.Resolution.{Resolution}
 use Rattle.lean_fixed.specs.declared.time.Window.{Window}
 use Rattle.lean_fixed.specs.Moments.{first_moment, last_moment}
@@ -20,11 +20,13 @@ use Rattle.session_tape.specs.Session.{SessionBar, Refusal, session_sources, ses
 use Rattle.session_tape.specs.Whole.{IsWhole as IsWholeSession}
 use Rattle.lean_top.specs.declared.status.Status.{Status}
 use Rattle.lean_top.specs.declared.status.Status.TheVariants.{Done, Usage, Algorithm, BadRow, ReadFault, Limit}
-use Rattle.lean_top.specs.Command.{Asked, DailyTape, SessionTape, Backtest, command}
+use Rattle.lean_top.specs.Command.{Asked, DailyTape, SessionTape, Backtest, Demo, command}
 use Rattle.daily_tape.specs.DailyTape.{Security, TapeRow, Refusal as DailyRefusal, securities, tape, tape_text, tape_bytes}
 use Rattle.lean_top.specs.HoursRead.{hours_file, hours_line}
 use Rattle.lean_top.specs.AlgorithmRead.{algorithm_in, algorithm_line}
 use Rattle.daily_tape.specs.Whole.{IsWhole}
+use Rattle.data_maker.specs.MadeFiles.{files_of, made_files, plan_path}
+use Rattle.lean_top.specs.CloseTail.{behind_close}
 
 -- the status of a tape
 abbrev pub ended_status : Ended → Status
@@ -78,11 +80,26 @@ backtest_by files (Ok plan) = backtest_with files plan (hours_file files)
 abbrev pub backtest_report : Files → List ℕ → List ℕ × Status
 backtest_report files path = backtest_by files (algorithm_in (files path))
 
+-- the folder that is made from a number, and the backtest of its algorithm file
+abbrev pub made_folder : ℕ → Files
+made_folder number = files_of (made_files number)
+
+abbrev pub made_report : ℕ → List ℕ × Status
+made_report number = backtest_report (made_folder number) plan_path
+
+abbrev pub demo_line : ℕ → List ℕ
+demo_line number = codes "demo " ++ decimal number ++ 10 ∷ []
+
+-- the demo of a number: its line, and what follows the last close line of that backtest
+abbrev pub demo_report : ℕ → List ℕ × Status
+demo_report number = (demo_line number ++ behind_close (made_report number).0, (made_report number).1)
+
 abbrev pub report_of : Files → Option Asked → List ℕ × Status
 report_of files None = (codes "usage\n", Usage)
 report_of files (Some (DailyTape symbols)) = daily_report_of (tape (securities files symbols))
 report_of files (Some (SessionTape resolution window symbols)) = session_with files resolution window symbols (hours_file files)
 report_of files (Some (Backtest path workers)) = backtest_report files path
+report_of files (Some (Demo number workers)) = demo_report number
 
 abbrev pub report : Files → List (List ℕ) → List ℕ × Status
 report files words = report_of files (command words)
@@ -118,10 +135,11 @@ AreMomentsBy files (Err words) bytes = ⊥
 AreMomentsBy files (Ok plan) bytes = AreMomentsWith files plan (hours_file files) bytes
 
 -- bytes that are the lines of whole steps of a report: of the first days of the daily tape, or of the first minutes of the
--- session tape or of a backtest, or nothing
+-- session tape or of a backtest, or nothing; a demo reads nothing of the folder, so no read of it fails
 abbrev pub AreWholeSteps : Files → Option Asked → List ℕ → Type 0
 AreWholeSteps files None bytes = ⊥
 AreWholeSteps files (Some (DailyTape symbols)) bytes = AreDaysOf (securities files symbols) bytes
 AreWholeSteps files (Some (SessionTape resolution window symbols)) bytes =
     (bytes ≡ []) ⊎ AreMinutes files resolution window symbols (hours_file files) bytes
 AreWholeSteps files (Some (Backtest path workers)) bytes = (bytes ≡ []) ⊎ AreMomentsBy files (algorithm_in (files path)) bytes
+AreWholeSteps files (Some (Demo number workers)) bytes = ⊥

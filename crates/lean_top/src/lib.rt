@@ -7,6 +7,10 @@ mod algorithm;
 mod backtest;
 #[cfg(test)]
 mod backtest_tests;
+mod close_tail;
+mod demo;
+#[cfg(test)]
+mod demo_tests;
 mod fault_text;
 mod files;
 mod hours;
@@ -20,6 +24,7 @@ mod status;
 mod tests;
 mod top;
 mod words;
+mod worked;
 
 pub use status::Status;
 pub use top::{lean_main, lean_offline};

@@ -8,6 +8,7 @@ ghost use Rattle.lean_top.specs.Outcome.{HasReported, HasUsage, NamesNoUsage, We
 ghost use Rattle.lean_top.specs.Report.{report, report_of, daily_report_of, AreDaysOf, AreWholeSteps};
 
 use crate::backtest::backtest;
+use crate::demo::demo;
 use crate::session::session_tape;
 use crate::status::{Status, status_of};
 use crate::words::{Command, read_words};
@@ -60,6 +61,7 @@ fn run_command<F: Folder, S: Sink>(
             session_tape(alloc, *resolution, *window, symbols, folder, out)
         }
         Command::Backtest(path, workers) => backtest(alloc, path.as_str(), *workers, folder, out),
+        Command::Demo(number, workers) => demo(alloc, *number, *workers, out),
     }
 }
 

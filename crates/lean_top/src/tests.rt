@@ -77,7 +77,7 @@ fn folder_of(alloc: Global, files: &str, fails: Vec<(String, u64)>) -> Result<Me
     Ok(MemFolder::new(alloc, map, fails)?)
 }
 
-fn words_of(alloc: Global, words: &str) -> Result<Vec<String>, AllocError> {
+pub(crate) fn words_of(alloc: Global, words: &str) -> Result<Vec<String>, AllocError> {
     let mut all = Vec::new(alloc);
     for word in words.split(' ') {
         all.push(String::from_str(alloc, word)?)?;

@@ -11,9 +11,11 @@ use std::thread::Threads;
 
 /// Runs a command line over a folder and prints its report into the sink, without threads. It always returns.
 ///
-/// The words are those behind the program's name: so far `tape` and 1 to 64 different symbols, for the daily tape; `tape`, a
-/// resolution, two days and such symbols, for the session tape; or `backtest` and a path, for the backtest of the algorithm
-/// file there, with `--workers K` or `--workers=K` in front of the path or behind it, K from 0 to 64 in one or two digits.
+/// The words are those behind the program's name: `tape` and 1 to 64 different symbols, for the daily tape; `tape`, a
+/// resolution, two days and such symbols, for the session tape; `backtest` and a path, for the backtest of the algorithm file
+/// there; or `demo` and a number of one to six digits, for its line and what follows the last close line of the backtest of
+/// the folder that is made from it. A backtest and a demo take `--workers K` or `--workers=K` in front of the path or the
+/// number or behind it, K from 0 to 64 in one or two digits. A demo reads nothing of the folder.
 /// `Usage`: the words are others; the line is `usage`. `Algorithm`: the algorithm file, or else the hours file of a session tape
 /// or a backtest, is missing, too large or refused; a line says why. `BadRow`: a line of a file is malformed; the lines of the
 /// dates or moments before it were printed, and then the line that names it. `Limit`: a backtest has no room for one more

@@ -5,7 +5,7 @@ ghost use Rattle.lean_fixed.specs.Calendar.{last_day};
 ghost use Rattle.lean_fixed.specs.Ranges.{IsDay};
 ghost use Rattle.lean_fixed.specs.Symbol.{is_symbol};
 ghost use Rattle.lean_top.specs.Asked.{asked_by, IsAsked, IsInOrder};
-ghost use Rattle.lean_top.specs.Command.{command, all_differ, symbols_of, resolution_of, window_day, window_from, window_of, session_words, tape_words, is_plain, workers_of, workers_in, workers_by, with_number, word_and_workers, or_else, backtest_words};
+ghost use Rattle.lean_top.specs.Command.{command, all_differ, symbols_of, resolution_of, window_day, window_from, window_of, session_words, tape_words, is_plain, workers_of, workers_in, workers_by, with_number, word_and_workers, or_else, backtest_words, demo_words, demo_number};
 
 use lean_fixed::ranges::LAST_DAY;
 use lean_fixed::{Day, NoMemory, Resolution, Symbol, Window, read_digits};
@@ -17,6 +17,9 @@ const MOST_SYMBOLS: usize = 64;
 /// The most workers of a backtest.
 const MOST_WORKERS: u64 = 64;
 
+/// The most digits of the number of a demo.
+const MOST_DIGITS: usize = 6;
+
 /// What the words ask for.
 #[derive(Drop)]
 pub enum Command {
@@ -26,6 +29,8 @@ pub enum Command {
     SessionTape(Resolution, Window, Vec<Symbol>),
     /// The backtest of the algorithm file at this path, with so many workers.
     Backtest(String, u32),
+    /// The demo of this number, with so many workers.
+    Demo(u64, u32),
 }
 
 /// What the words ask for. `None` exactly where they are none that are taken.
@@ -42,6 +47,9 @@ pub fn read_words(alloc: Global, words: &[String]) -> Result<Option<Command>, No
     }
     if name.as_str() == "backtest" {
         return read_backtest(alloc, rest);
+    }
+    if name.as_str() == "demo" {
+        return Ok(read_demo(rest));
     }
     Ok(None)
 }
@@ -198,6 +206,31 @@ fn read_backtest(alloc: Global, words: &[String]) -> Result<Option<Command>, NoM
     };
     let path = String::from_str(alloc, found.0)?;
     Ok(Some(Command::Backtest(path, found.1)))
+}
+
+// What `demo` and these words ask for.
+fn read_demo(words: &[String]) -> Option<Command>
+    ensures asked { option_map asked_by result ≡ demo_words (map string_bytes words.now) }
+    ensures few { IfSome result IsAsked }
+{
+    let Some(found) = read_word_and_workers(words) else {
+        return None;
+    };
+    let Some(number) = read_number(found.0.as_bytes()) else {
+        return None;
+    };
+    Some(Command::Demo(number, found.1))
+}
+
+// The number that one to six digits say.
+fn read_number(text: &[u8]) -> Option<u64>
+    ensures value { result ≡ demo_number text.now }
+    ensures few { IfSome result (λ number. number ≤ 999999) }
+{
+    if text.len() > MOST_DIGITS {
+        return None;
+    }
+    read_digits(text)
 }
 
 // A plain word, and the number of workers where `--workers=K` or `--workers K` stands in front of it or behind it, or else 0.
