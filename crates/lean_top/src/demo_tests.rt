@@ -97,41 +97,51 @@ fn end_of_backtest(alloc: Global, number: u64) -> Result<String, Fail>
 }
 
 #[test]
-fn demos_are_ends_of_backtests(rt: HostRuntime) -> Result<(), Fail> {
+fn demo_is_the_end_of_its_backtest(rt: HostRuntime) -> Result<(), Fail> {
     let alloc = rt.alloc();
     let mut folder = unread(alloc)?;
-    let seven = end_of_backtest(alloc, 7)?;
-    for words in ["demo 7", "demo 007", "demo 000007", "demo --workers=8 7"] {
-        compare(alloc, words, &printed(alloc, words, &mut folder)?, &seven)?;
-    }
-    for words in [
-        "demo 7",
-        "demo 7 --workers 1",
-        "demo 7 --workers=8",
-        "demo --workers 64 7",
-    ] {
-        compare(alloc, words, &printed_by_main(&rt, words)?, &seven)?;
-    }
-    let none = end_of_backtest(alloc, 0)?;
+    let end = end_of_backtest(alloc, 7)?;
     compare(
         alloc,
-        "demo 0",
-        &printed(alloc, "demo 0", &mut folder)?,
-        &none,
-    )?;
-    let last = end_of_backtest(alloc, 999_999)?;
+        "demo 007",
+        &printed(alloc, "demo 007", &mut folder)?,
+        &end,
+    )
+}
+
+#[test]
+fn demo_of_the_greatest_number(rt: HostRuntime) -> Result<(), Fail> {
+    let alloc = rt.alloc();
+    let mut folder = unread(alloc)?;
+    let end = end_of_backtest(alloc, 999_999)?;
     compare(
         alloc,
         "demo 999999",
         &printed(alloc, "demo 999999", &mut folder)?,
-        &last,
+        &end,
+    )
+}
+
+#[test]
+fn workers_change_no_demo(rt: HostRuntime) -> Result<(), Fail> {
+    let alloc = rt.alloc();
+    let mut folder = unread(alloc)?;
+    let none = printed(alloc, "demo 7", &mut folder)?;
+    compare(
+        alloc,
+        "one worker",
+        &printed_by_main(&rt, "demo 7 --workers 1")?,
+        &none,
+    )?;
+    compare(
+        alloc,
+        "eight workers",
+        &printed_by_main(&rt, "demo --workers=8 7")?,
+        &none,
     )
 }
 
 #[test]
 fn failing_writes_of_demos(rt: HostRuntime) -> Result<(), Fail> {
-    let alloc = rt.alloc();
-    let seven = end_of_backtest(alloc, 7)?;
-    let whole = seven.strip_prefix("0 ").ok_or("the backtest is not whole")?;
-    check_writes(alloc, "demo 7", "daily/spy:", whole, 3)
+    check_writes(rt.alloc(), "demo 7", "daily/spy:", "demo 7\nend ", 1)
 }
