@@ -22,7 +22,6 @@ PROGRAM = r"""
 //! Lets bars arrive at a core.
 #![tactic(auto)]
 
-use anyhow::{Result, anyhow};
 use backtest_core::{Core, Phase};
 use exchange_hours::Hours;
 use lean_fixed::{Moment, Price, Shares, Symbol, read_digits};
@@ -47,58 +46,53 @@ const HEAD: &str = "start = '20131007'\nend = '20291007'\ncash = '1000000'\n";
 const RULE: &str = "[[rules]]\nwhen = 'close > sma(20) and close < 0'\ndo = 'order'\nkind = 'market'\nquantity = '1'\n";
 
 // An algorithm file of so many securities, whose bars have a period of 5 minutes where there is one.
-fn plan_text(alloc: Global, count: u64, period: bool) -> Result<String> {
-    let mut text = String::from_str(alloc, HEAD)?;
+fn plan_text(alloc: Global, count: u64, period: bool) -> Option<String> {
+    let mut text = String::from_str(alloc, HEAD).ok()?;
     for number in 0..count {
-        write!(text, "[[securities]]\nsymbol = 'S{number}'\nresolution = 'minute'\n")?;
+        write!(text, "[[securities]]\nsymbol = 'S{number}'\nresolution = 'minute'\n").ok()?;
         if period {
-            text.push_str("period = 5\n")?;
+            text.push_str("period = 5\n").ok()?;
         }
     }
-    text.push_str(RULE)?;
-    Ok(text)
+    text.push_str(RULE).ok()?;
+    Some(text)
 }
 
-fn plan(alloc: Global, count: u64, period: bool) -> Result<Plan> {
-    match Plan::read(alloc, plan_text(alloc, count, period)?.as_bytes()) {
-        Ok(plan) => Ok(plan),
-        Err(_) => Err(anyhow!(alloc; "no plan")),
-    }
+fn hours(alloc: Global) -> Option<Arc<Hours>> {
+    let hours = Hours::read(alloc, HOURS.as_bytes()).ok()?;
+    Arc::new(alloc, hours).ok()
 }
 
-fn hours(alloc: Global) -> Result<Arc<Hours>> {
-    match Hours::read(alloc, HOURS.as_bytes()) {
-        Ok(hours) => Ok(Arc::new(alloc, hours)?),
-        Err(_) => Err(anyhow!(alloc; "no hours")),
-    }
-}
-
-fn listed(plan: &Plan, out: &mut Vec<Symbol>) -> Result<()> {
+fn listed(plan: &Plan, out: &mut Vec<Symbol>) -> Option<()> {
     for security in &plan.securities.0 {
-        out.push(security.symbol)?;
+        out.push(security.symbol).ok()?;
     }
-    Ok(())
+    Some(())
 }
 
-fn name_all(core: &mut Core, symbols: &[Symbol]) -> Result<()> {
+fn name_all(core: &mut Core, symbols: &[Symbol]) -> Option<()> {
     let mut number = 0u64;
     for symbol in symbols {
         number = number.wrapping_add(1);
-        core.named(*symbol, FeedNo(number))?;
+        core.named(*symbol, FeedNo(number)).ok()?;
     }
-    Ok(())
+    Some(())
 }
 
-fn begin(alloc: Global, count: u64, period: bool) -> Result<Core> {
-    let plan = plan(alloc, count, period)?;
+fn begin(alloc: Global, count: u64, period: bool) -> Option<Core> {
+    let text = plan_text(alloc, count, period)?;
+    let plan = match Plan::read(alloc, text.as_bytes()) {
+        Ok(plan) => plan,
+        Err(_) => return None,
+    };
     let mut symbols = Vec::new(alloc);
     listed(&plan, &mut symbols)?;
-    let mut core = Core::begin(alloc, plan, hours(alloc)?)?;
+    let mut core = Core::begin(alloc, plan, hours(alloc)?).ok()?;
     name_all(&mut core, &symbols)?;
-    Ok(core)
+    Some(core)
 }
 
-fn hear(core: &mut Core, id: u32, symbol: Symbol, what: What) -> Result<()> {
+fn hear(core: &mut Core, id: u32, symbol: Symbol, what: What) -> Option<()> {
     let event = OrderEvent {
         at: Moment(23_018_400),
         id,
@@ -109,20 +103,20 @@ fn hear(core: &mut Core, id: u32, symbol: Symbol, what: What) -> Result<()> {
         ticket: Ticket(1),
         reply: Reply::Event(event),
     };
-    core.hear(&heard)?;
-    Ok(())
+    core.hear(&heard).ok()?;
+    Some(())
 }
 
-fn close_order(core: &mut Core, id: u32, symbol: Symbol) -> Result<()> {
+fn close_order(core: &mut Core, id: u32, symbol: Symbol) -> Option<()> {
     hear(core, id, symbol, What::Submitted(Kind::Limit, Shares(1), Some(Price(1)), None))?;
     hear(core, id, symbol, What::Canceled)
 }
 
-fn close_orders(core: &mut Core, symbol: Symbol, closed: u32) -> Result<()> {
+fn close_orders(core: &mut Core, symbol: Symbol, closed: u32) -> Option<()> {
     for id in 0..closed {
         close_order(core, id + 1, symbol)?;
     }
-    Ok(())
+    Some(())
 }
 
 // The bar of one minute of a security.
@@ -143,12 +137,12 @@ fn arrival(number: u64, minute: u32) -> Arrival {
     }
 }
 
-fn fill(slice: &mut Vec<Arrival>, count: u64, minute: u32) -> Result<()> {
+fn fill(slice: &mut Vec<Arrival>, count: u64, minute: u32) -> Option<()> {
     slice.clear();
     for number in 0..count {
-        slice.extend_from_slice(&[arrival(number, minute)])?;
+        slice.extend_from_slice(&[arrival(number, minute)]).ok()?;
     }
-    Ok(())
+    Some(())
 }
 
 // How many commands a phase has.
@@ -163,30 +157,30 @@ fn take(core: &mut Core, phase: Phase) -> u64 {
     1000
 }
 
-fn play(core: &mut Core, slice: &[Arrival], minute: u32) -> Result<u64> {
+fn play(core: &mut Core, slice: &[Arrival], minute: u32) -> Option<u64> {
     let at = Moment(23_018_401 + (minute % 10_000_000) as i64);
     if core.arrive(at, slice).is_err() {
-        return Ok(0);
+        return Some(0);
     }
     let mut commands = 0u64;
     for phase in [Phase::Prices, Phase::Rules, Phase::Close] {
         commands = commands.wrapping_add(take(core, phase));
     }
-    core.close_moment()?;
-    Ok(commands)
+    core.close_moment().ok()?;
+    Some(commands)
 }
 
-fn play_all(core: &mut Core, alloc: Global, count: u64, moments: u32) -> Result<u64> {
+fn play_all(core: &mut Core, alloc: Global, count: u64, moments: u32) -> Option<u64> {
     let mut slice = Vec::new(alloc);
     let mut commands = 0u64;
     for minute in 0..moments {
         fill(&mut slice, count, minute)?;
         commands = commands.wrapping_add(play(core, &slice, minute)?);
     }
-    Ok(commands)
+    Some(commands)
 }
 
-fn run(alloc: Global, count: u64, moments: u32, closed: u32, period: bool) -> Result<u64> {
+fn run(alloc: Global, count: u64, moments: u32, closed: u32, period: bool) -> Option<u64> {
     let mut core = begin(alloc, count, period)?;
     if let Some(symbol) = Symbol::read(b"S0") {
         close_orders(&mut core, symbol, closed)?;
@@ -232,7 +226,7 @@ def build(folder):
     program = crates / "core_times/src"
     program.mkdir(parents=True)
     (program / "main.rt").write_text(PROGRAM.lstrip())
-    line = "core_times: backtest_core rule_strategy lean_orders exchange_hours lean_items lean_fixed anyhow"
+    line = "core_times: backtest_core rule_strategy lean_orders exchange_hours lean_items lean_fixed"
     (folder / "crates.txt").write_text("\n".join([*crates_needed.values(), line]) + "\n")
     shutil.copy(TOP / "HANDLES", folder / "HANDLES")
     subprocess.run(["git", "init", "-q", folder], check=True)

@@ -36,8 +36,12 @@ fn amount(text: Option<&str>) -> Result<i64, Fail> {
     Ok(within(text, 0, 100_000_000_000)? as i64)
 }
 
-fn symbol(text: Option<&str>) -> Result<Symbol, Fail> {
-    Ok(Symbol::read(text.ok_or("a symbol")?.as_bytes()).ok_or("a symbol")?)
+/// The symbol that a word is.
+pub fn symbol(word: &str) -> Result<Symbol, Fail> {
+    match Symbol::read(word.as_bytes()) {
+        Some(symbol) => Ok(symbol),
+        None => Err(Fail::from("a symbol")),
+    }
 }
 
 // A bar of one price, with its first minute, its end and the price.
@@ -58,7 +62,7 @@ fn bar(text: &str) -> Result<Item, Fail> {
 // A coarse row of 1,000 shares, with its symbol, its price and its dollars.
 fn row(text: &str, at: Moment) -> Result<Item, Fail> {
     let row = CoarseRow {
-        symbol: symbol(field(text, 2))?,
+        symbol: symbol(field(text, 2).ok_or("a symbol")?)?,
         close: Price(amount(field(text, 3))?),
         volume: Shares(1000),
         dollars: amount(field(text, 4))?,

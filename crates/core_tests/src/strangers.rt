@@ -2,6 +2,7 @@
 
 use crate::lines::{append_text, check, compare, play};
 use crate::playing::{Game, begin, hear};
+use crate::slices::symbol;
 use backtest_core::Core;
 use lean_fixed::{Moment, Money, Price, Shares, Symbol};
 use lean_orders::{Fill, OrderEvent, Reply, What};
@@ -122,11 +123,7 @@ fn after_strangers(alloc: Global) -> Result<String, Fail> {
 }
 
 fn hear_all(game: &mut Game) -> Result<(), Fail> {
-    hear_strangers(&mut game.core, spy()?)
-}
-
-fn spy() -> Result<Symbol, Fail> {
-    Ok(Symbol::read(b"SPY").ok_or("a symbol")?)
+    hear_strangers(&mut game.core, symbol("SPY")?)
 }
 
 #[test]
