@@ -180,7 +180,8 @@ fn play_all(core: &mut Core, alloc: Global, count: u64, moments: u32) -> Option<
     Some(commands)
 }
 
-fn run(alloc: Global, count: u64, moments: u32, closed: u32, period: bool) -> Option<u64> {
+fn run(alloc: Global, count: u32, moments: u32, closed: u32, period: bool) -> Option<u64> {
+    let count = count as u64;
     let mut core = begin(alloc, count, period)?;
     if let Some(symbol) = Symbol::read(b"S0") {
         close_orders(&mut core, symbol, closed)?;
@@ -199,7 +200,7 @@ fn main(rt: HostRuntime) -> std::io::Result<()> {
         numbers[place % 4] = number(word.as_str());
         place = place.wrapping_add(1);
     }
-    let commands = run(rt.alloc(), numbers[0] as u64, numbers[1], numbers[2], numbers[3] == 1).unwrap_or(0);
+    let commands = run(rt.alloc(), numbers[0], numbers[1], numbers[2], numbers[3] == 1).unwrap_or(0);
     println!(rt; "{commands}")
 }
 """
