@@ -1,7 +1,6 @@
 -- A slice arrives at an algorithm.
 use Rattle.std.proofs.Common.{◌≡◌, ℕ, ◌+◌, ◌≤◌, List, [], ◌∷◌, ◌++◌, true, false, refl, ap, sym, subst, ◌∙◌, arith, inl}
-use Rattle.std.specs.Prelude.{pos, Option, Some, None, Result, Ok, Err, length, map, if◌then◌else◌, Bool}
-use Rattle.std.specs.List.{AllByRecursion as Each}
+use Rattle.std.specs.Prelude.{pos, Option, Some, None, Ok, Err, length, map, if◌then◌else◌, Bool}
 use Rattle.std.proofs.lemmas.Bool.{false≢true}
 use Rattle.std.proofs.lemmas.List.{append-nil}
 use Rattle.lean_fixed.specs.Ranges.{IsPrintedMoment}
@@ -12,7 +11,7 @@ use Rattle.lean_orders.specs.declared.desk.Command.{Command}
 use Rattle.lean_orders.specs.declared.desk.Reply.{Reply}
 use Rattle.clock_run.specs.Lines.{Line}
 use Rattle.clock_run.specs.Orderly.{NumbersRise}
-use Rattle.clock_run.specs.States.{Setup, Subscription, coarse_keys}
+use Rattle.clock_run.specs.States.{Setup, coarse_keys}
 use Rattle.report_stats.specs.Stands.{StandsFor as StatsStand}
 use Rattle.backtest_core.specs.declared.standing.Core.{Core}
 use Rattle.backtest_core.specs.declared.stop.Stop.{Stop as CoreStop}
@@ -23,12 +22,11 @@ use Rattle.backtest_core.specs.Inside.{Inside, with_bars, marked_so, choice_in, 
 use Rattle.backtest_core.specs.declared.phase.Phase.TheVariants as core_phase
 use Rattle.backtest_core.specs.Slices.{IsSlice}
 use Rattle.backtest_core.specs.Standing.{Followed, Standing}
-use Rattle.backtest_core.specs.Text.{lines_bytes}
 use Rattle.backtest_engine.specs.declared.algorithm.Algorithm.{Algorithm}
 use Rattle.backtest_engine.specs.declared.limits.Limit.TheVariants.{Securities}
-use Rattle.backtest_engine.specs.Algorithms.{Own, plan_of, unphased, subscribed, meaning_of}
+use Rattle.backtest_engine.specs.Algorithms.{Own, subscribed, meaning_of}
 use Rattle.backtest_engine.specs.InsideLemmas.{given-none}
-use Rattle.backtest_engine.specs.Meaning.{Subscription as Feed, Meaning, State, arrival_of}
+use Rattle.backtest_engine.specs.Meaning.{Subscription as Feed, Meaning, State}
 use Rattle.backtest_engine.specs.Meets.{IsMet}
 use Rattle.backtest_engine.specs.Playing.{Between, Within}
 use Rattle.backtest_engine.specs.PlayingLaws.{stop_of}

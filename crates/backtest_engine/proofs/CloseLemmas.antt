@@ -1,7 +1,7 @@
 -- An algorithm closes a moment.
-use Rattle.std.proofs.Common.{◌≡◌, ℕ, ◌+◌, ◌≤◌, List, [], ◌∷◌, ◌++◌, refl, ap, sym, subst, ◌∙◌, arith}
-use Rattle.std.specs.Prelude.{pos, Option, Some, None, length, map, not, filter_map}
-use Rattle.std.specs.List.{All, AllByRecursion as Each, filter}
+use Rattle.std.proofs.Common.{◌≡◌, ℕ, ◌+◌, List, [], ◌∷◌, ◌++◌, refl, ap, sym, subst, ◌∙◌}
+use Rattle.std.specs.Prelude.{pos, Option, Some, None, length, map, filter_map}
+use Rattle.std.specs.List.{All, AllByRecursion as Each}
 use Rattle.std.proofs.lemmas.List.{append-nil, append_assoc, length-map, map-append}
 use Rattle.std.proofs.lemmas.List.Concat.{flat_map-append}
 use Rattle.std.proofs.lemmas.List.Elements.{All-nil, All-cons}
@@ -21,12 +21,11 @@ use Rattle.backtest_core.specs.Inside.{Inside, is_leaving, leaving, joining_all,
 use Rattle.backtest_core.specs.Standing.{Followed, Standing, named_all, with_feed}
 use Rattle.backtest_core.specs.Text.{lines_bytes}
 use Rattle.backtest_engine.specs.declared.algorithm.Algorithm.{Algorithm}
-use Rattle.backtest_engine.specs.declared.phase.Phase.{Phase}
 use Rattle.backtest_engine.specs.Algorithms.{Own, plan_of, unphased, subscribed, active_of, rest_of, meaning_of}
-use Rattle.backtest_engine.specs.Meaning.{Subscription, Meaning, State}
+use Rattle.backtest_engine.specs.Meaning.{Meaning}
 use Rattle.backtest_engine.specs.Playing.{IsKeyed, Between, Within, behind_all}
-use Rattle.backtest_engine.specs.ReachLemmas.{Behind, Reached, all_of, heard_of, finished, plays-all, reached-all, behind-whole, lines-on}
-use Rattle.backtest_engine.specs.Turns.{Turn, IsEquity, IsFinished, numbered, subscription, without_all, turn_after, Closes}
+use Rattle.backtest_engine.specs.ReachLemmas.{all_of, heard_of, finished, plays-all, reached-all, behind-whole, lines-on}
+use Rattle.backtest_engine.specs.Turns.{Turn, IsEquity, IsFinished, numbered, without_all, turn_after, Closes}
 use Rattle.backtest_engine.proofs.LeaveLemmas.{without-leaving, below-all}
 use Rattle.backtest_engine.proofs.NamedLemmas.{named-first}
 

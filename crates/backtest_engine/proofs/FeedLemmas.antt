@@ -98,7 +98,10 @@ abbrev pub Extends : Feeds → Feeds → Type 0
 Extends feeds now = (n : ℕ) (taken : Taken) → feeds n ≡ Some taken → now n ≡ Some taken
 
 pub extends-earlier : (feeds now : Feeds) → Extends feeds now → IsEarlier feeds now
-extends-earlier feeds now e lists follow n taken at = follow n taken (e n taken at)
+extends-earlier feeds now e = (
+  (λ lists follow n taken at. follow n taken (e n taken at)),
+  λ n taken at. ([], e n taken at ∙ ap (λ xs. let o : Option Taken = Some (record { key = taken.key; items = xs }) in o) (sym (append-nil taken.items))),
+)
 
 pub taken-same : (feeds now : Feeds) (heads : List Arrival) → Extends feeds now → All (IsTaken feeds) heads → All (IsTaken now) heads
 taken-same feeds now heads e all = All-weaker (IsTaken feeds) (IsTaken now) (λ a h. (h.0, e a.feed.0 h.0 h.1, h.2)) heads all
@@ -290,7 +293,7 @@ opened-more stands new_stands before n now_added added feeds now later heads mid
   stock = then.stock;
   at = λ lists coarse t active are follow may at.
       (let parts = all-both (MayStart coarse t) (numbered n ks) (numbered (n + length ks) (key ∷ [])) (subst (λ xs. All (MayStart coarse t) xs) (numbered-append n ks key) may) in
-      let one = first.at lists coarse t active are (earlier lists follow) parts.0 at in
+      let one = first.at lists coarse t active are (earlier.0 lists follow) parts.0 at in
       let two = then.at lists coarse t (active ++ numbered n ks) are follow (subst (λ j. All (MayStart coarse t) (numbered j (key ∷ []))) (sym count) parts.1) one in
       subst (λ xs. AreAt coarse t later new xs) (append_assoc active (numbered n ks) (numbered now_added (key ∷ [])) ∙ ap (λ j. active ++ (numbered n ks ++ numbered j (key ∷ []))) count ∙ ap (λ xs. active ++ xs) (sym (numbered-append n ks key))) two);
 }

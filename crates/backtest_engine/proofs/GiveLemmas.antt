@@ -1,14 +1,13 @@
 -- An algorithm gives the commands of a phase, one after another.
-use Rattle.std.proofs.Common.{◌≡◌, ℕ, ◌+◌, ◌≤◌, List, [], ◌∷◌, ◌++◌, true, false, refl, ap, sym, subst, ◌∙◌, arith, inl, inr}
-use Rattle.std.specs.Prelude.{◌⊎◌, pos, Option, Some, None, Result, Ok, Err, length, if◌then◌else◌, Bool, unwrap_or, is_some, IfSome}
+use Rattle.std.proofs.Common.{◌≡◌, List, [], ◌∷◌, ◌++◌, true, false, refl, ap, sym, subst, ◌∙◌, arith, inl, inr}
+use Rattle.std.specs.Prelude.{◌⊎◌, pos, Option, Some, None, Ok, Err, if◌then◌else◌, Bool, unwrap_or, is_some, IfSome}
 use Rattle.std.proofs.lemmas.Bool.{false≢true}
 use Rattle.std.proofs.lemmas.List.{append-nil, append_assoc}
 use Rattle.lean_fixed.specs.declared.time.Moment.{Moment}
 use Rattle.lean_orders.specs.declared.desk.Command.{Command}
-use Rattle.lean_orders.specs.declared.desk.Reply.{Reply}
-use Rattle.clock_book.specs.Fitting.{IsFitting, submits}
+use Rattle.clock_book.specs.Fitting.{IsFitting}
 use Rattle.clock_book.specs.Handled.{replies}
-use Rattle.clock_book.specs.InRange.{submitted, moment_of}
+use Rattle.clock_book.specs.InRange.{moment_of}
 use Rattle.clock_run.proofs.EachLemmas.{each-append}
 use Rattle.clock_run.specs.States.{Setup}
 use Rattle.backtest_core.specs.declared.phase.Phase.{Phase as CorePhase}
@@ -16,18 +15,16 @@ use Rattle.backtest_core.specs.declared.standing.Core.{Core}
 use Rattle.backtest_core.specs.declared.stop.Stop.{Stop as CoreStop}
 use Rattle.backtest_core.specs.declared.stop.Stop.TheVariants as core_stop
 use Rattle.backtest_core.specs.Calls.{StopsFor, Gives as GivesOne}
-use Rattle.backtest_core.specs.Core.{StandsIn, GivesNoMore, requests_of}
-use Rattle.backtest_core.specs.Inside.{Inside, begins, entered, behind_first, next, first_of}
-use Rattle.backtest_core.specs.Phases.{is_request, time_of}
+use Rattle.backtest_core.specs.Core.{StandsIn, GivesNoMore}
+use Rattle.backtest_core.specs.Inside.{Inside, entered, behind_first, next, first_of}
 use Rattle.backtest_core.specs.Whole.{given_all}
 use Rattle.backtest_engine.specs.declared.algorithm.Algorithm.{Algorithm}
 use Rattle.backtest_engine.specs.declared.limits.Limit.TheVariants.{Requests}
-use Rattle.backtest_engine.specs.declared.phase.Phase.{Phase}
 use Rattle.backtest_engine.specs.Algorithms.{Own, core_phase_of, unphased, begun, meaning_of}
 use Rattle.backtest_engine.specs.BookLemmas.{time-moment, submits-few, submitted-append}
 use Rattle.backtest_engine.specs.InsideLemmas.{Frame, given-frame, given-none, given-one, heard-none, entered-once}
 use Rattle.backtest_engine.specs.Meaning.{Meaning}
-use Rattle.backtest_engine.specs.Playing.{Waits, Plays, Within, behind_all}
+use Rattle.backtest_engine.specs.Playing.{Waits, Within, behind_all}
 use Rattle.backtest_engine.specs.PlayingLaws.{stop_of}
 use Rattle.backtest_engine.specs.ReachLemmas.{behind-is}
 use Rattle.backtest_engine.specs.Turns.{Turn, asked_of, Gives}

@@ -1,5 +1,5 @@
 -- An algorithm hears a reply.
-use Rattle.std.proofs.Common.{◌≡◌, ℕ, ◌+◌, ◌≤◌, ℤ, List, [], ◌∷◌, ◌++◌, true, false, refl, ap, sym, subst, ◌∙◌, arith, inl, inr}
+use Rattle.std.proofs.Common.{◌≡◌, ◌+◌, ◌≤◌, ℤ, List, [], ◌∷◌, ◌++◌, true, false, ap, sym, subst, ◌∙◌, arith, inl, inr}
 use Rattle.std.specs.Prelude.{◌⊎◌, pos, length, filter_map, Bool}
 use Rattle.std.specs.List.{AllByRecursion as Each, fold}
 use Rattle.std.proofs.lemmas.Bool.{false≢true}
@@ -26,7 +26,7 @@ use Rattle.backtest_engine.specs.Algorithms.{Own, plan_of, begun}
 use Rattle.backtest_engine.specs.BookLemmas.{each-mid, in-range-replies, replies-heard}
 use Rattle.backtest_engine.specs.InsideLemmas.{heard-one}
 use Rattle.backtest_engine.specs.Meaning.{Meaning}
-use Rattle.backtest_engine.specs.Playing.{Waits, Plays, Within, behind_all}
+use Rattle.backtest_engine.specs.Playing.{Waits, Within, behind_all}
 use Rattle.backtest_engine.specs.PlayingLaws.{HasEquity}
 use Rattle.backtest_engine.specs.ReachLemmas.{behind-is}
 use Rattle.backtest_engine.specs.Turns.{Turn}

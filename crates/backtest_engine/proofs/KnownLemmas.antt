@@ -1,5 +1,5 @@
 -- What is known of a run from one moment to the next, whatever its pool and its desk turn out to have told.
-use Rattle.std.proofs.Common.{◌≡◌, ℕ, ◌+◌, ◌-◌, ◌<◌, ◌≤◌, Bool, false, pos, List, [], ◌++◌, Option, Some, None, refl, sym, ap, ◌∙◌, subst, arith, append_assoc, append-nil}
+use Rattle.std.proofs.Common.{◌≡◌, ℕ, ◌+◌, ◌-◌, ◌<◌, ◌≤◌, Bool, false, pos, List, [], ◌++◌, Option, Some, None, refl, sym, ap, ◌∙◌, subst, inl, arith, append_assoc, append-nil}
 use Rattle.std.specs.Prelude.{find, Result, Ok, Err, OnOk}
 use Rattle.std.specs.List.{All, Contains}
 use Rattle.lean_fixed.specs.declared.time.Moment.{Moment}
@@ -29,9 +29,11 @@ use Rattle.backtest_engine.specs.Reports.{minutes}
 use Rattle.backtest_engine.specs.Phased.{DeskStands, GoesOn}
 use Rattle.backtest_engine.specs.Stands.{AreLists, AreCalm, IsEarlier, Stock, HasFaulted}
 use Rattle.backtest_engine.specs.Moved.{Knows, Moved, IfReadFault}
+use Rattle.backtest_engine.specs.Exact.{ended_as, EndsBy}
 use Rattle.backtest_engine.specs.Walked.{IsEnding, IfFault, AllFrom, NoClose, IsEnd, AllMeet}
+use Rattle.backtest_engine.proofs.GaveLemmas.{earlier-same, earlier-then}
 use Rattle.backtest_engine.proofs.PhaseLemmas.{goes-none, goes-more}
-use Rattle.backtest_engine.proofs.WalkLemmas.{Comes, Came, meets-at, came, cut-short, comes-next, ends-whole, ends-refused, ends-faulted}
+use Rattle.backtest_engine.proofs.WalkLemmas.{Comes, Came, meets-at, came, cut-short, exact-cut, comes-next, exact-whole, exact-stopped, ends-whole, ends-refused, ends-faulted}
 
 abbrev pub CoreStands : Type 0 → Type 1
 CoreStands Own = (m : Meaning Own) → State Own → List FeedKey → Type 0
@@ -97,7 +99,7 @@ module _ {Own : Type 0} (coarse : Bool) (first last : ℕ) (desk0 : DeskStands) 
       → Knows m lists coarse (stands0 m) desk0 added0 feeds heads0 first s0 b cs rs
       → AreCalm lists (pos first) heads0 (m.active s0.own)
       → AllMeet (meets m) m lists first last s0
-      → IsEnd m lists first last s0 coarse now (stands m) (after b (cs ++ ds)) told0 told result))
+      → IsEnd m lists first last s0 coarse now (stands m) (after b (cs ++ ds)) told0 told result × EndsBy m lists first last s0 coarse now (ended_as result)))
 
   -- what a moment says
   abbrev pub SaysMoment : DeskStands → DeskStands → (Start → Feeds → Type 0) → (Start → Feeds → Type 0) → ℕ → ℕ → List Arrival → List Arrival → List FeedKey → List FeedKey → CoreStands Own → CoreStands Own → Moment → Option (List ℕ) → Option (List ℕ) → Result (Unit {0}) Cut → Type 0
@@ -121,7 +123,7 @@ module _ {Own : Type 0} (coarse : Bool) (first last : ℕ) (desk0 : DeskStands) 
     known = λ before feeds stock. record {
       now = feeds;
       stock = stock;
-      earlier = λ lists follow. follow;
+      earlier = earlier-same feeds;
       comes = λ lists m s0 b cs rs are follow right knows calm met. record {
         state = s0;
         bytes = [];
@@ -135,6 +137,7 @@ module _ {Own : Type 0} (coarse : Bool) (first last : ℕ) (desk0 : DeskStands) 
         };
         calm = calm;
         wrote = IsTaken-nothing told0;
+        passed = λ t lo hi. absurd (omega (arith, lo, hi));
       };
     };
   }
@@ -158,12 +161,12 @@ module _ {Own : Type 0} (coarse : Bool) (first last : ℕ) (desk0 : DeskStands) 
           record {
             now = now;
             stock = stock1;
-            earlier = λ lists follow. o.earlier lists (earlier lists follow);
+            earlier = earlier-then feeds o.now now o.earlier earlier;
             comes = λ lists m s0 b cs rs are follow right knows calm met.
                 (let r = inner b cs k.ds es rs k.more others right in
-                let c = o.comes lists m s0 b cs rs are (earlier lists follow) (right-before b (cs ++ k.ds) es (rs ++ k.more) others r) knows calm met in
+                let c = o.comes lists m s0 b cs rs are (earlier.0 lists follow) (right-before b (cs ++ k.ds) es (rs ++ k.more) others r) knows calm met in
                 let g = moved lists m at c.state b (cs ++ k.ds) (rs ++ k.more) are follow r is c.knows c.calm (meets-at m lists coarse first last s0 (meets m) met at c.bytes c.state low high c.ran) in
-                let done = came m lists coarse first last s0 (stands m) (new_stands m) desk new_desk added new_added o.now now heads new at b (cs ++ k.ds) es (rs ++ k.more) others told0 told told1 low c
+                let done = came m lists coarse first last s0 (stands m) (new_stands m) desk new_desk added new_added o.now now heads new at b (cs ++ k.ds) es (rs ++ k.more) others told0 told told1 low high earlier.1 c
                 (goes b (cs ++ k.ds) (rs ++ k.more) c.knows.desk_is) g in
                 subst (λ xs. CameAt new_desk new_added new new_stands at told1 now lists m s0 b xs (rs ++ (k.more ++ others))) (append_assoc cs k.ds es)
                 (subst (λ xs. CameAt new_desk new_added new new_stands at told1 now lists m s0 b ((cs ++ k.ds) ++ es) xs) (append_assoc rs k.more others) done));
@@ -183,14 +186,16 @@ module _ {Own : Type 0} (coarse : Bool) (first last : ℕ) (desk0 : DeskStands) 
           let (now, stand, earlier, fault, nothing, moved) = says before o.now o.stock in (
             now,
             stand,
-            (λ lists follow. o.earlier lists (earlier lists follow)),
+            earlier-then feeds o.now now o.earlier earlier,
             fault-of c (HasFaulted now) fault,
             λ lists m s0 b cs rs are follow right knows calm met.
                 (let r = inner b cs k.ds es rs k.more others right in
-                let w = o.comes lists m s0 b cs rs are (earlier lists follow) (right-before b (cs ++ k.ds) es (rs ++ k.more) others r) knows calm met in
-                let g = moved lists m at w.state b (cs ++ k.ds) (rs ++ k.more) are follow r is w.knows w.calm (meets-at m lists coarse first last s0 (meets m) met at w.bytes w.state low high w.ran) in
-                subst (λ xs. IsEnd m lists first last s0 coarse now (new_stands m) (after b xs) told0 told1 (Err c)) (append_assoc cs k.ds es)
-                (cut-short m lists coarse first last s0 (stands m) (new_stands m) desk added new_added o.now now heads new at b (cs ++ k.ds) (rs ++ k.more) (after b ((cs ++ k.ds) ++ es)) told0 told told1 c low high w g)),
+                let w = o.comes lists m s0 b cs rs are (earlier.0 lists follow) (right-before b (cs ++ k.ds) es (rs ++ k.more) others r) knows calm met in
+                let g = moved lists m at w.state b (cs ++ k.ds) (rs ++ k.more) are follow r is w.knows w.calm (meets-at m lists coarse first last s0 (meets m) met at w.bytes w.state low high w.ran) in (
+                  subst (λ xs. IsEnd m lists first last s0 coarse now (new_stands m) (after b xs) told0 told1 (Err c)) (append_assoc cs k.ds es)
+                      (cut-short m lists coarse first last s0 (stands m) (new_stands m) desk added new_added o.now now heads new at b (cs ++ k.ds) (rs ++ k.more) (after b ((cs ++ k.ds) ++ es)) told0 told told1 c low high w g),
+                  exact-cut m lists coarse first last s0 (stands m) (new_stands m) desk added new_added o.now now heads new at b (cs ++ k.ds) (rs ++ k.more) (after b ((cs ++ k.ds) ++ es)) told0 told told1 c low high earlier.1 w g,
+                )),
           )),
     )
       where
@@ -235,9 +240,12 @@ module _ {Own : Type 0} (coarse : Bool) (first last : ℕ) (desk0 : DeskStands) 
               o.stock.stand,
               o.earlier,
               tt,
-              λ lists m s0 b cs rs are follow right knows calm met.
-                  ends-whole m lists coarse first last s0 are (stands m) (meets m) met desk added o.now heads at b (cs ++ k.ds) (rs ++ k.more) told0 told low high follow (idle m)
-                  (o.comes lists m s0 b cs rs are follow right knows calm met) none from (closes m (o.comes lists m s0 b cs rs are follow right knows calm met).state),
+              λ lists m s0 b cs rs are follow right knows calm met. (
+                ends-whole m lists coarse first last s0 are (stands m) (meets m) met desk added o.now heads at b (cs ++ k.ds) (rs ++ k.more) told0 told low high follow (idle m)
+                    (o.comes lists m s0 b cs rs are follow right knows calm met) none from (closes m (o.comes lists m s0 b cs rs are follow right knows calm met).state),
+                exact-whole m lists coarse first last s0 are (stands m) (meets m) met desk added o.now heads at b (cs ++ k.ds) (rs ++ k.more) told0 told low high follow (idle m)
+                    (o.comes lists m s0 b cs rs are follow right knows calm met) none from (closes m (o.comes lists m s0 b cs rs are follow right knows calm met).state),
+              ),
             )),
       )
 
@@ -258,9 +266,15 @@ module _ {Own : Type 0} (coarse : Bool) (first last : ℕ) (desk0 : DeskStands) 
               o.stock.stand,
               o.earlier,
               tt,
-              λ lists m s0 b cs rs are follow right knows calm met.
-                  ends-refused m lists coarse first last s0 are (stands m) (meets m) met desk added o.now heads at b (cs ++ k.ds) (rs ++ k.more) told0 told low high follow (idle m)
-                  (o.comes lists m s0 b cs rs are follow right knows calm met) a key bad keys o.stock.keys_are found line named,
+              λ lists m s0 b cs rs are follow right knows calm met. (
+                ends-refused m lists coarse first last s0 are (stands m) (meets m) met desk added o.now heads at b (cs ++ k.ds) (rs ++ k.more) told0 told low high follow (idle m)
+                    (o.comes lists m s0 b cs rs are follow right knows calm met) a key bad keys o.stock.keys_are found line named,
+                (
+                  bad,
+                  exact-stopped m lists coarse first last s0 are (stands m) (meets m) met desk added o.now heads at b (cs ++ k.ds) (rs ++ k.more) told0 told low high follow (idle m)
+                      (o.comes lists m s0 b cs rs are follow right knows calm met) a (item.Bad bad) found line,
+                ),
+              ),
             )),
       )
       known-stopped a Faulted found is = (
@@ -273,8 +287,11 @@ module _ {Own : Type 0} (coarse : Bool) (first last : ℕ) (desk0 : DeskStands) 
               o.stock.stand,
               o.earlier,
               faulted-head o.now a o.stock.taken found is,
-              λ lists m s0 b cs rs are follow right knows calm met.
-                  ends-faulted m lists coarse first last s0 are (stands m) (meets m) met desk added o.now heads at b (cs ++ k.ds) (rs ++ k.more) told0 told low high follow (idle m)
-                  (o.comes lists m s0 b cs rs are follow right knows calm met) a found is,
+              λ lists m s0 b cs rs are follow right knows calm met. (
+                ends-faulted m lists coarse first last s0 are (stands m) (meets m) met desk added o.now heads at b (cs ++ k.ds) (rs ++ k.more) told0 told low high follow (idle m)
+                    (o.comes lists m s0 b cs rs are follow right knows calm met) a found is,
+                inl (exact-stopped m lists coarse first last s0 are (stands m) (meets m) met desk added o.now heads at b (cs ++ k.ds) (rs ++ k.more) told0 told low high follow (idle m)
+                    (o.comes lists m s0 b cs rs are follow right knows calm met) a item.Faulted found is),
+              ),
             )),
       )

@@ -1,12 +1,11 @@
 -- The feeds of the securities that leave, and of those that join.
 use Rattle.std.proofs.Common.{◌≡◌, ℕ, ◌+◌, ◌<◌, ◌≤◌, List, [], ◌∷◌, ◌++◌, true, false, refl, ap, sym, subst, ◌∙◌, arith, inl, inr}
 use Rattle.std.specs.Prelude.{length, map, not, ◌==◌, Bool, cond}
-use Rattle.std.specs.List.{AllByRecursion as Each, filter, fold}
+use Rattle.std.specs.List.{AllByRecursion as Each, filter}
 use Rattle.std.proofs.lemmas.Bool.Decides.{eqb_tells}
 use Rattle.std.proofs.lemmas.List.{append_assoc}
 use Rattle.std.proofs.lemmas.List.Elements.{filter-append}
 use Rattle.lean_items.specs.declared.feed_key.FeedKey.{FeedKey}
-use Rattle.lean_items.specs.declared.feed_no.FeedNo.{FeedNo}
 use Rattle.clock_run.proofs.EachLemmas.{each-append}
 use Rattle.clock_run.specs.Orderly.{NumbersRise, number_of}
 use Rattle.clock_run.specs.States.{Subscription as Security}

@@ -1,6 +1,7 @@
 pub mod PhaseLemmas
 pub mod MomentLemmas
 pub mod HeadLemmas
+pub mod GaveLemmas
 pub mod FeedLemmas
 pub mod MinuteLemmas
 pub mod WalkLemmas

@@ -31,8 +31,10 @@ use Rattle.backtest_engine.specs.Meaning.{Meaning, State, Subscription, moment_o
 use Rattle.backtest_engine.specs.Turns.{IsEquity, subscription, numbered, without_all}
 use Rattle.backtest_engine.specs.Played.{Plays, IsPlayed}
 use Rattle.backtest_engine.specs.Stands.{AreLists, AreAt, AreCalm, MayStart, Stock, broken, is_faulted, CoarseFailed, HasFaulted}
+use Rattle.backtest_engine.specs.Gave.{AreSound, IsStop}
 use Rattle.backtest_engine.specs.Opened.{AreNumbered, without_heads, Opened}
 use Rattle.backtest_engine.specs.Moved.{moment_at, Moved, IfReadFault, Settled, Halted}
+use Rattle.backtest_engine.proofs.GaveLemmas.{heads-sound, heads-stop}
 use Rattle.backtest_engine.proofs.HeadLemmas.{all-step, slice-whole}
 use Rattle.backtest_engine.proofs.FeedLemmas.{some-same, at-without_all, all-without}
 
@@ -91,6 +93,18 @@ broken-failed coarse heads feeds all h = by (find (λ (a : Arrival). stops a.ite
         let (taken, at, contains) = (head-found (IsTakenOf feeds) (λ (x : Arrival). stops x.item) heads a all e).0 in
         (has, taken, ap feeds (sym number) ∙ at, subst (Contains taken.items) (faulted-is a.item failed) contains)
 
+-- the first head that stops is a failed read
+pub broken-stop : (coarse : Bool) (t : ℤ) (feeds : Feeds) (heads : List Arrival) (active : List Subscription) → AreAt coarse t feeds heads active → broken coarse (find (λ (a : Arrival). stops a.item) heads) ≡ true
+    → IsStop feeds t active Faulted
+broken-stop coarse t feeds heads active at h = by (find (λ (a : Arrival). stops a.item) heads) refl h
+  where
+    by : (o : Option Arrival) → find (λ (a : Arrival). stops a.item) heads ≡ o → broken coarse o ≡ true → IsStop feeds t active Faulted
+    by None e h = absurd (false≢true h)
+    by (Some a) e h =
+        let (has, rest) = and_parts coarse ((eqb a.feed.0 0) && is_faulted a.item) h in
+        let (zero, failed) = and_parts (eqb a.feed.0 0) (is_faulted a.item) rest in
+        subst (λ x. IsStop feeds t active x) (faulted-is a.item failed) (heads-stop coarse t feeds heads active a at e)
+
 pub not-false : (b : Bool) → true ≡ not b → b ≡ false
 not-false true h = absurd (true≢false h)
 not-false false h = refl
@@ -142,23 +156,23 @@ may-numbered coarse t n (key ∷ ks) all =
 pub slice-step : (lists : FeedKey → List Item) (are : AreLists lists) (coarse : Bool) (at : Moment) (t : ℕ) (feeds : Feeds) (taken : ℕ → List Item) (heads after slice : List Arrival) (active : List Subscription)
     → at.0 ≡ pos t → AllFollow lists (taken_all feeds taken) → AreAt coarse (pos t) feeds heads active → AreCalm lists (pos t) heads active
     → IsSliced at.0 taken heads after → AreRising after → broken coarse (find (λ (a : Arrival). stops a.item) after) ≡ false → slice ≡ slice_of at.0 taken heads
-    → AreAt coarse (pos (t + 1)) (taken_all feeds taken) after active × (slice ≡ slice_at lists (pos t) active)
+    → AreAt coarse (pos (t + 1)) (taken_all feeds taken) after active × (slice ≡ slice_at lists (pos t) active) × AreSound (taken_all feeds taken) (pos (t + 1)) active
 slice-step lists are coarse at t feeds taken heads after slice active is follow stand calm sliced rising sound slice_is =
     let by : IsSliced (pos t) taken heads after = subst (λ z. IsSliced z taken heads after) is sliced in
     let whole = slice-whole lists are coarse (pos t) feeds taken heads after active stand by rising sound in
     let step = all-step lists are coarse (pos t) feeds taken heads after active follow stand calm by whole in
-    (step.0, slice_is ∙ ap (λ z. slice_of z taken heads) is ∙ step.1)
+    (step.0, slice_is ∙ ap (λ z. slice_of z taken heads) is ∙ step.1, heads-sound coarse (pos (t + 1)) (taken_all feeds taken) after active step.0 whole)
 
 module _ {Own : Type 0} (m : Meaning Own) (lists : FeedKey → List Item) (coarse : Bool) where
   pub halted-moved : (stands : State Own → List FeedKey → Type 0) (text : List ℕ) (added : ℕ) (now : Feeds) (heads slice : List Arrival) (t : ℕ) (s : State Own) (book : Book) (told0 told : Option (List ℕ)) (why : Stop) (c : Cut)
       → slice ≡ slice_at lists (pos t) (m.active s.own) → IsPlayed m stands text t slice s book (Err why) → Halted text why told0 told c
-      → Moved m lists coarse stands added now heads t s book told0 told (Err c)
-  halted-moved stands text added now heads slice t s book told0 told why c slice_is played halted =
+      → AreSound now (pos (t + 1)) (m.active s.own) → Moved m lists coarse stands added now heads t s book told0 told (Err c)
+  halted-moved stands text added now heads slice t s book told0 told why c slice_is played halted sound =
       by why c (subst (λ xs. IsPlayed m stands text t xs s book (Err why)) slice_is played) halted
     where
       by : (why : Stop) (c : Cut) → IsPlayed m stands text t (slice_at lists (pos t) (m.active s.own)) s book (Err why) → Halted text why told0 told c
           → Moved m lists coarse stands added now heads t s book told0 told (Err c)
-      by (stop.Limited limit) (cut.Limited met) (stopped, text_is) (same, wrote) = (stopped ∙ ap Some (sym same), subst (λ xs. IsTaken told0 told xs) text_is wrote)
+      by (stop.Limited limit) (cut.Limited met) (stopped, text_is) (same, wrote) = (stopped ∙ ap Some (sym same), subst (λ xs. IsTaken told0 told xs) text_is wrote, sound)
       by (stop.Limited limit) cut.WriteFault (stopped, text_is) front = subst (λ xs. IsFront told0 told xs) text_is front
       by (stop.Limited limit) cut.NoMemory p h = absurd h
       by (stop.Limited limit) cut.ReadFault p h = absurd h
@@ -175,8 +189,9 @@ module _ {Own : Type 0} (m : Meaning Own) (lists : FeedKey → List Item) (coars
       → OnOk r (Opened pool before added0 added mid now (without_heads after removed) heads keys ks)
       → OnOk r (added ≡ added0 + length ks)
       → OnOk r ((z : State Own) → stands0 z ks → added0 + length ks ≡ m.added z.own → stands z [])
+      → AreSound now (pos (t + 1)) (m.active s.own)
       → Moved m lists coarse stands added now heads t s book told0 told r
-  settled-moved stands0 stands pool before text added0 added mid now after heads slice keys ks removed t s book told0 told r are follow slice_is added_is at played settled opened more named =
+  settled-moved stands0 stands pool before text added0 added mid now after heads slice keys ks removed t s book told0 told r are follow slice_is added_is at played settled opened more named sound =
       by r (subst (λ xs. Plays m stands0 text t s.own (moment_of m t xs s) book ks removed) slice_is played) settled opened more named
     where
       by : (r : Result (Unit {0}) Cut) → Plays m stands0 text t s.own (moment_at m lists coarse t s) book ks removed → Settled text told0 told r
@@ -195,6 +210,7 @@ module _ {Own : Type 0} (m : Meaning Own) (lists : FeedKey → List Item) (coars
             added_is = count ∙ sym more;
             at = subst (λ xs. AreAt coarse (pos (t + 1)) now heads xs) (ap (λ n. without_all (m.active s.own) removed ++ numbered n ks) (sym added_is) ∙ sym p.active) stands_at;
             wrote = subst (λ xs. IsTaken told0 told xs) p.text_is wrote;
+            sound = sound;
           }
       by (Err cut.NoMemory) p wrote o more named = front-whole told0 told (moment_at m lists coarse t s).lines (subst (λ xs. IsTaken told0 told xs) p.text_is wrote)
       by (Err cut.WriteFault) p front o more named = subst (λ xs. IsFront told0 told xs) p.text_is front

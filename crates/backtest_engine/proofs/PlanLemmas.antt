@@ -1,6 +1,6 @@
 -- The run of a plan has written the report of the definition.
-use Rattle.std.proofs.Common.{◌≡◌, ℕ, ◌+◌, ◌-◌, ◌≤◌, List, [], refl, ap, sym, subst, ◌∙◌, inl, inr}
-use Rattle.std.specs.Prelude.{Bool, Option, Some, is_some}
+use Rattle.std.proofs.Common.{◌≡◌, ℕ, List, sym, subst, ◌∙◌, inl, inr}
+use Rattle.std.specs.Prelude.{Bool, Option, is_some}
 use Rattle.lean_fixed.specs.Moments.{first_moment, last_moment}
 use Rattle.lean_io.specs.Told.{Files}
 use Rattle.lean_items.specs.declared.feed_key.FeedKey.{FeedKey}
@@ -21,6 +21,7 @@ use Rattle.backtest_engine.specs.Algorithms.{meaning_of, opening_state, opening_
 use Rattle.backtest_engine.specs.Backtests.{IsBacktest, AreMoments, ended_of, report}
 use Rattle.backtest_engine.specs.Feeds.{list_of}
 use Rattle.backtest_engine.specs.Meets.{IsMet}
+use Rattle.backtest_engine.specs.Exact.{IsExact}
 use Rattle.backtest_engine.specs.Reported.{IsOpening, IsReport, ended_by}
 use Rattle.backtest_engine.specs.Reports.{whole, report_of}
 use Rattle.backtest_engine.specs.Stands.{AreLists}
@@ -110,6 +111,19 @@ module _ (setup : Setup) (files : Files) (plan : IsPlan setup.plan) (every : Lie
       subst (λ coarse. Reported coarse first last told0 told ended) is_coarse
       (subst (λ n. Reported coarse n last told0 told ended) is_first
       (subst (λ k. Reported coarse n k told0 told ended) is_last r))
+
+  abbrev pub Exact : Bool → ℕ → ℕ → Option (List ℕ) → Option (List ℕ) → Ended → Type 0
+  Exact coarse n k told0 told ended =
+      (now : Feeds) × AllFollow lists now × IsReport (meaning_of setup) lists n k (opening_state setup) coarse now told0 told ended
+      × IsExact (meaning_of setup) lists n k (opening_state setup) coarse now ended
+
+  pub exact-as : (coarse : Bool) (n k : ℕ) (told0 told : Option (List ℕ)) (ended : Ended)
+      → coarse ≡ is_some setup.plan.universe → n ≡ first → k ≡ last
+      → Exact coarse n k told0 told ended → Exact (is_some setup.plan.universe) first last told0 told ended
+  exact-as coarse n k told0 told ended is_coarse is_first is_last r =
+      subst (λ coarse. Exact coarse first last told0 told ended) is_coarse
+      (subst (λ n. Exact coarse n last told0 told ended) is_first
+      (subst (λ k. Exact coarse n k told0 told ended) is_last r))
 
 -- nothing was written
 pub nothing-written : (setup : Setup) (world : World) (told : Option (List ℕ)) (ended : Ended) → ended ≡ NoMemory → IsBacktest setup world told told ended

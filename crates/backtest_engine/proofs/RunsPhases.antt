@@ -1,5 +1,5 @@
 -- The phases of an algorithm are those of its core, one after the other.
-use Rattle.std.proofs.Common.{◌≡◌, ℕ, ◌+◌, List, ◌++◌, true, refl, ap, sym, ◌∙◌}
+use Rattle.std.proofs.Common.{◌≡◌, ℕ, List, ◌++◌, true, refl, ap, sym, ◌∙◌}
 use Rattle.std.specs.Prelude.{Option, Some, None, if◌then◌else◌, map, filter_map}
 use Rattle.std.proofs.lemmas.List.Concat.{flat_map-append}
 use Rattle.lean_items.specs.declared.arrival.Arrival.{Arrival}
@@ -22,7 +22,6 @@ use Rattle.backtest_core.proofs.PhaseLemmas.{entered-is, through-ended}
 use Rattle.backtest_engine.specs.declared.limits.Limit.{Limit}
 use Rattle.backtest_engine.specs.declared.limits.Limit.TheVariants.{Requests}
 use Rattle.backtest_engine.specs.declared.phase.Phase.{Phase}
-use Rattle.backtest_engine.specs.declared.phase.Phase.TheVariants.{Prices, Rules, Close}
 use Rattle.backtest_engine.specs.Algorithms.{Own, core_phase_of, unphased, meaning_of}
 use Rattle.backtest_engine.specs.Meaning.{State, phase}
 

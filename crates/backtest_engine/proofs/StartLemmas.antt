@@ -37,11 +37,14 @@ use Rattle.backtest_engine.specs.Turns.{numbered}
 use Rattle.backtest_engine.specs.Reports.{limit_line, last_text, report_of, whole}
 use Rattle.backtest_engine.specs.Phased.{DeskStands}
 use Rattle.backtest_engine.specs.Stands.{AreLists, AreAt, AreCalm, MayStart, Stock, broken, is_faulted}
+use Rattle.backtest_engine.specs.Gave.{AreSound}
+use Rattle.backtest_engine.specs.Exact.{ended_as, EndsAs, EndsBy, Starts, IsExact}
 use Rattle.backtest_engine.specs.Opened.{Opened}
 use Rattle.backtest_engine.specs.Moved.{Knows}
 use Rattle.backtest_engine.specs.Walked.{IsCut, IfFault, IsEnd}
 use Rattle.backtest_engine.specs.Reported.{MayOpen, IsOpening, ended_by, IsFault, IfWhole, IsReported, IsReport}
 use Rattle.backtest_engine.specs.Last.{IsWritten}
+use Rattle.backtest_engine.proofs.GaveLemmas.{heads-sound}
 use Rattle.backtest_engine.proofs.HeadLemmas.{IsWhole}
 use Rattle.backtest_engine.proofs.WalkLemmas.{front-behind}
 use Rattle.backtest_engine.proofs.KnownLemmas.{nothing-ran}
@@ -84,6 +87,11 @@ module _ (lists : FeedKey → List Item) (coarse : Bool) where
           let bad : broken coarse (find (λ (x : Arrival). stops x.item) (a ∷ heads)) ≡ true
           = ap (broken coarse) found ∙ ap (λ c. c && ((a.feed.0 == 0) && is_faulted a.item)) has ∙ ap (λ x. (x == 0) && is_faulted a.item) zero ∙ ap is_faulted is in
           true≢false (sym bad ∙ sound)
+
+  pub opening-sound : (t : ℤ) (feeds : Feeds) (heads : List Arrival) (active : List Subscription) → AreAt coarse t feeds heads active → AreRising heads
+      → broken coarse (find (λ (a : Arrival). stops a.item) heads) ≡ false → AreSound feeds t active
+  opening-sound t feeds heads active at rising sound =
+      heads-sound coarse t feeds heads active at (heads-whole t feeds heads active at rising sound)
 
   -- nothing of a list ends at its feed's start or before it
   not-at : (t start : ℤ) (x : Item) → t ≤ℤ start → fits_first start x ≡ true → ends_at t x ≡ false
@@ -159,6 +167,27 @@ cut-none m lists first last s told = record {
   small = omega arith;
   wrote = subst (λ r. IsTaken told told r.lines) (sym (nothing-ran m lists first s)) (IsTaken-nothing told);
 }
+
+-- ---- what was given decides how a run ends
+
+module _ {Own : Type 0} (m : Meaning Own) (lists : FeedKey → List Item) (first last : ℕ) (s : State Own) (coarse : Bool) (now : Feeds) where
+  pub exact-start : (e : Ended) → Starts m lists first last s coarse now → EndsBy m lists first last s coarse now e → IsExact m lists first last s coarse now e
+  exact-start ended.Done starts ends = (starts, ends)
+  exact-start ended.BadRow starts ends = (starts, ends)
+  exact-start ended.ReadFault starts ends = inr (starts, ends)
+  exact-start ended.WriteFault starts ends = tt
+  exact-start ended.NoMemory starts ends = tt
+  exact-start ended.Limit starts ends = (starts, ends)
+
+  pub exact-end : (walked : Result Ending Cut) (e : Ended) → EndsAs walked e → IsExact m lists first last s coarse now (ended_as walked) → IsExact m lists first last s coarse now e
+  exact-end walked e says exact = elim says [
+    | inl same ↦ subst (λ z. IsExact m lists first last s coarse now z) (sym same) exact
+    | inr other ↦
+        elim other [
+          | inl same ↦ subst (λ z. IsExact m lists first last s coarse now z) (sym same) tt
+          | inr same ↦ subst (λ z. IsExact m lists first last s coarse now z) (sym same) tt
+        ]
+  ]
 
 -- ---- what is written behind the last moment
 

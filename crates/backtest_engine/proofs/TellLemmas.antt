@@ -1,5 +1,5 @@
 -- What an algorithm tells between two moments: the next close of a session, and its summary.
-use Rattle.std.proofs.Common.{◌≡◌, ℕ, ◌<◌, ◌≤◌, ℤ, ◌<ℤ◌, ◌≤ℤ◌, List, [], ◌++◌, false, refl, ap, sym, subst, ◌∙◌, arith}
+use Rattle.std.proofs.Common.{◌≡◌, ℕ, ◌<◌, ◌≤◌, ◌<ℤ◌, ◌≤ℤ◌, List, [], ◌++◌, false, ap, sym, subst, ◌∙◌, arith}
 use Rattle.std.proofs.lemmas.Int.{ints}
 use Rattle.std.specs.Prelude.{pos, Option, Some, None}
 use Rattle.lean_fixed.specs.declared.time.Moment.{Moment}
@@ -8,8 +8,6 @@ use Rattle.exchange_hours.specs.Grid.{IsClosing, is_closing}
 use Rattle.exchange_hours.specs.Next.{IsNext}
 use Rattle.clock_run.specs.States.{Setup}
 use Rattle.clock_run.specs.Summary.{summary}
-use Rattle.clock_book.specs.Books.{Book}
-use Rattle.report_stats.specs.Stands.{StandsFor as StatsStand}
 use Rattle.backtest_engine.specs.declared.algorithm.Algorithm.{Algorithm}
 use Rattle.backtest_engine.specs.Algorithms.{Own, meaning_of}
 use Rattle.backtest_engine.specs.Meaning.{Meaning, State}

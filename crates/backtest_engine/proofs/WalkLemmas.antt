@@ -1,7 +1,8 @@
 -- From one moment to the next at which anything can happen, whatever was taken and heard.
-use Rattle.std.proofs.Common.{◌≡◌, ℕ, zero, suc, ◌+◌, ◌-◌, ◌<◌, ◌≤◌, Bool, false, ℤ, pos, List, [], ◌∷◌, ◌++◌, Option, Some, None, refl, sym, ap, ◌∙◌, subst, arith, append_assoc, append-nil}
-use Rattle.std.specs.Prelude.{find, slice_get, unwrap_or, Ok, Err}
+use Rattle.std.proofs.Common.{◌≡◌, ℕ, zero, suc, ◌+◌, ◌-◌, ◌<◌, ◌≤◌, Bool, true, false, ℤ, pos, List, [], ◌∷◌, ◌++◌, Option, Some, None, refl, sym, ap, ◌∙◌, subst, inl, inr, arith, append_assoc, append-nil}
+use Rattle.std.specs.Prelude.{find, nat_lt, slice_get, unwrap_or, Ok, Err}
 use Rattle.std.specs.List.{All}
+use Rattle.std.proofs.lemmas.Bool.{cases_Bool}
 use Rattle.std.proofs.lemmas.Int.{ints}
 use Rattle.std.proofs.lemmas.List.Elements.{All-nil, All-cons, All-weaker, All-contains}
 use Rattle.lean_items.specs.declared.arrival.Arrival.{Arrival}
@@ -28,9 +29,12 @@ use Rattle.backtest_engine.specs.Lists.{slice_at, refused}
 use Rattle.backtest_engine.specs.Meaning.{Meaning, State, Subscription, moment_of}
 use Rattle.backtest_engine.specs.Reports.{Halt, halt, limited, malformed, halted, minute, minutes, whole}
 use Rattle.backtest_engine.specs.Phased.{DeskStands}
-use Rattle.backtest_engine.specs.Stands.{AreLists, AreAt, AreCalm, HasFile}
+use Rattle.backtest_engine.specs.Stands.{AreLists, AreAt, AreCalm, HasFile, HasMore}
+use Rattle.backtest_engine.specs.Gave.{AreQuiet, AreSound, IsStop}
 use Rattle.backtest_engine.specs.Moved.{moment_at, Knows, Goes, Moved}
+use Rattle.backtest_engine.specs.Exact.{ended_as, Passes, Passed, Took, Stops, EndsBy}
 use Rattle.backtest_engine.specs.Walked.{AllFrom, NoClose, IsEnd, AllMeet}
+use Rattle.backtest_engine.proofs.GaveLemmas.{later-quiet, later-sound, quiet-sound, heads-quiet, heads-stop}
 use Rattle.backtest_engine.proofs.HeadLemmas.{all-later, all-quiet, calm-heads, none-refused, first-refused}
 
 -- ---- what was written
@@ -61,6 +65,12 @@ at-from coarse t feeds (a ∷ heads) [] at = absurd at
 at-from coarse t feeds (a ∷ heads) (f ∷ active) (i, at) =
     All-cons (λ a. EndsFrom (pos t) (end_of a.item)) a heads i.head.from (at-from coarse t feeds heads active at)
 
+below-is : (t u : ℕ) → nat_lt t u ≡ true → t < u
+below-is t u h = grind arith
+
+same-is : (t u : ℕ) → nat_lt t u ≡ false → t < u + 1 → t ≡ u
+same-is t u h lt = grind arith
+
 -- ---- one run
 
 module _ {Own : Type 0} (m : Meaning Own) (lists : FeedKey → List Item) (coarse : Bool) (first last : ℕ) (s0 : State Own) where
@@ -85,6 +95,7 @@ module _ {Own : Type 0} (m : Meaning Own) (lists : FeedKey → List Item) (coars
     pub knows : Knows m lists coarse stands desk added now heads at state b cs rs
     pub calm : AreCalm lists (pos at) heads (m.active state.own)
     pub wrote : IsTaken told0 told bytes
+    pub passed : Passed m lists first last s0 coarse now at
 
   -- behind one, before the look at the heads
   pub record Came (stands : State Own → List FeedKey → Type 0) (desk : DeskStands) (added : ℕ) (now : Feeds) (heads : List Arrival) (at : ℕ) (b : Book) (cs : List Command) (rs : List Reply) (told0 told : Option (List ℕ)) : Type 0 where
@@ -93,6 +104,7 @@ module _ {Own : Type 0} (m : Meaning Own) (lists : FeedKey → List Item) (coars
     pub ran : so (at + 1 - first) ≡ ran_so bytes state (halt None (refused lists (pos at) (m.active state.own)))
     pub knows : Knows m lists coarse stands desk added now heads (at + 1) state b cs rs
     pub wrote : IsTaken told0 told bytes
+    pub took : Took m lists first last s0 coarse now at
 
   -- the moment behind those that were played
   ran-next : (at : ℕ) (bytes : List ℕ) (s : State Own) → first ≤ at → so (at - first) ≡ ran_so bytes s None → so (at + 1 - first) ≡ behind bytes (halted m lists at (moment_at m lists coarse at s))
@@ -114,11 +126,23 @@ module _ {Own : Type 0} (m : Meaning Own) (lists : FeedKey → List Item) (coars
       subst (λ t. meets t (slice_at lists (pos t) (m.active s.own)) s) to
       (subst (λ (r : Ran (State Own) ℕ Halt). meets (first + n) (slice_at lists (pos (first + n)) (m.active r.state.own)) r.state) ran met)
 
+  later-passed : (feeds now : Feeds) (until : ℕ) → HasMore feeds now → Passed m lists first last s0 coarse feeds until → Passed m lists first last s0 coarse now until
+  later-passed feeds now until has passed t lo hi =
+      let p = passed t lo hi in
+      (later-sound feeds now (pos (t + 1)) _ has p.0, later-quiet feeds now (pos (t + 1)) _ has p.1)
+
+  -- one minute more passed
+  passed-step : (now : Feeds) (u : ℕ) → Passed m lists first last s0 coarse now u → Passes m lists first last s0 coarse now u → Passed m lists first last s0 coarse now (u + 1)
+  passed-step now u passed p t lo hi = elim (cases_Bool (nat_lt t u)) [
+    | inl lt ↦ passed t lo (below-is t u lt)
+    | inr other ↦ subst (λ k. Passes m lists first last s0 coarse now k) (sym (same-is t u other hi)) p
+  ]
+
   pub came : (stands new_stands : State Own → List FeedKey → Type 0) (desk new_desk : DeskStands) (added new_added : ℕ) (now later : Feeds) (heads new : List Arrival) (at : ℕ) (b : Book) (cs ds : List Command) (rs more : List Reply) (told0 told told1 : Option (List ℕ))
-      → first ≤ at → (c : Comes stands desk added now heads at b cs rs told0 told) → new_desk b (cs ++ ds) (rs ++ more)
+      → first ≤ at → at ≤ last → HasMore now later → (c : Comes stands desk added now heads at b cs rs told0 told) → new_desk b (cs ++ ds) (rs ++ more)
       → Goes m lists coarse new_stands new_added later new at c.state (after b (cs ++ ds)) told told1
       → Came new_stands new_desk new_added later new at b (cs ++ ds) (rs ++ more) told0 told1
-  came stands new_stands desk new_desk added new_added now later heads new at b cs ds rs more told0 told told1 low c desk_is g =
+  came stands new_stands desk new_desk added new_added now later heads new at b cs ds rs more told0 told told1 low high has c desk_is g =
       let r = moment_at m lists coarse at c.state in
       record {
         state = r.state;
@@ -126,6 +150,12 @@ module _ {Own : Type 0} (m : Meaning Own) (lists : FeedKey → List Item) (coars
         ran = ran-next at c.bytes c.state low c.ran ∙ ap (λ z. ran_so (c.bytes ++ r.lines) r.state (halt z (refused lists (pos at) (m.active r.state.own)))) g.stop;
         knows = record { core_is = g.core_is; desk_is = desk_is; book = g.book_is; added_is = g.added_is; at = g.at };
         wrote = IsTaken-append told0 told told1 c.bytes r.lines c.wrote g.wrote;
+        took = record {
+          low = low;
+          high = high;
+          passed = later-passed now later at has c.passed;
+          sound = subst (λ (r : Ran (State Own) ℕ Halt). AreSound later (pos (at + 1)) (m.active r.state.own)) (sym c.ran) g.sound;
+        };
       }
 
   -- the lines of the first minutes are a front of all
@@ -163,7 +193,7 @@ module _ {Own : Type 0} (m : Meaning Own) (lists : FeedKey → List Item) (coars
         },
         failed,
       )
-      by (cut.Limited limit) (stop, wrote) =
+      by (cut.Limited limit) (stop, wrote, sound) =
           let r = moment_at m lists coarse at k.state in
           let ran : so (at + 1 - first) ≡ ran_so (k.bytes ++ r.lines) r.state (Some (limited limit))
           = ran-next at k.bytes k.state low k.ran ∙ ap (λ z. ran_so (k.bytes ++ r.lines) r.state (halt z (refused lists (pos at) (m.active r.state.own)))) stop in
@@ -173,6 +203,31 @@ module _ {Own : Type 0} (m : Meaning Own) (lists : FeedKey → List Item) (coars
             ap (λ (r : Ran (State Own) ℕ Halt). r.stop) whole_is,
             subst (λ xs. IsTaken told0 told1 xs) (sym (ap (λ (r : Ran (State Own) ℕ Halt). r.lines) whole_is)) (IsTaken-append told0 told told1 k.bytes r.lines k.wrote wrote),
           )
+
+  -- how a minute that was cut short ends the run
+  pub exact-cut : (stands new_stands : State Own → List FeedKey → Type 0) (desk : DeskStands) (added new_added : ℕ) (now later : Feeds) (heads new : List Arrival) (at : ℕ) (b : Book) (cs : List Command) (rs : List Reply) (book : Book) (told0 told told1 : Option (List ℕ)) (c : Cut)
+      → first ≤ at → at ≤ last → HasMore now later → (k : Comes stands desk added now heads at b cs rs told0 told)
+      → Moved m lists coarse new_stands new_added later new at k.state book told told1 (Err c)
+      → EndsBy m lists first last s0 coarse later (ended_as (Err c))
+  exact-cut stands new_stands desk added new_added now later heads new at b cs rs book told0 told told1 c low high has k moved = by c moved
+    where
+      by : (c : Cut) → Moved m lists coarse new_stands new_added later new at k.state book told told1 (Err c) → EndsBy m lists first last s0 coarse later (ended_as (Err c))
+      by cut.NoMemory f = tt
+      by cut.WriteFault f = tt
+      by cut.ReadFault (same, failed) = inr (record { at = at; low = low; high = high; passed = later-passed now later at has k.passed; failed = failed })
+      by (cut.Limited limit) (stop, wrote, sound) = (
+        limit,
+        record {
+          at = at;
+          took = record {
+            low = low;
+            high = high;
+            passed = later-passed now later at has k.passed;
+            sound = subst (λ (r : Ran (State Own) ℕ Halt). AreSound later (pos (at + 1)) (m.active r.state.own)) (sym k.ran) sound;
+          };
+          halts = subst (λ (r : Ran (State Own) ℕ Halt). (moment_at m lists coarse at r.state).stop ≡ Some limit) (sym k.ran) stop;
+        },
+      )
 
   -- ---- behind a moment at which no head stops
 
@@ -213,6 +268,35 @@ module _ {Own : Type 0} (m : Meaning Own) (lists : FeedKey → List Item) (coars
         ∙ ap (behind c.bytes) (quiet-at until within calm from none u (omega arith) (omega (arith, h)) so_far)
         ∙ ap (λ xs. ran_so xs c.state None) (append-nil c.bytes)
 
+    -- what was given at the minutes behind it
+    passes-at : (until : ℕ) → until ≤ last + 1 → All (λ a. stops a.item ≡ false) heads → AllFrom until heads → NoClose m.is_close at until
+        → (gap : ℕ) → at + 1 + gap + 1 ≤ until → Passes m lists first last s0 coarse now (at + 1 + gap)
+    passes-at until within calm from none gap h =
+        let u = at + 1 + gap in
+        let active = m.active c.state.own in
+        let here = ran-until until within calm from none gap (omega (arith, h)) in
+        let next : u + 1 - first ≡ at + 1 + suc gap - first = omega arith in
+        let there = ap so next ∙ ran-until until within calm from none (suc gap) (omega (arith, h)) in
+        let later = all-later lists are coarse (pos (at + 1)) (pos (u + 1)) now heads active (omega (arith, ints)) c.knows.at (earlier-from (u + 1) until heads (omega (arith, h)) from) in
+        let quiet = heads-quiet coarse (pos (u + 1)) now heads active later calm in (
+          subst (λ (r : Ran (State Own) ℕ Halt). AreSound now (pos (u + 1)) (m.active r.state.own)) (sym here) (quiet-sound now (pos (u + 1)) active quiet),
+          subst (λ (r : Ran (State Own) ℕ Halt). AreQuiet now (pos (u + 1)) (m.active r.state.own)) (sym there) quiet,
+        )
+
+    passed-until : (until : ℕ) → until ≤ last + 1 → All (λ a. stops a.item ≡ false) heads → AllFrom until heads → NoClose m.is_close at until
+        → (gap : ℕ) → at + 1 + gap ≤ until → Passed m lists first last s0 coarse now (at + 1 + gap)
+    passed-until until within calm from none zero h =
+        let quiet = heads-quiet coarse (pos (at + 1)) now heads (m.active c.state.own) c.knows.at calm in
+        let p : Passes m lists first last s0 coarse now at
+        = (c.took.sound, subst (λ (r : Ran (State Own) ℕ Halt). AreQuiet now (pos (at + 1)) (m.active r.state.own)) (sym c.ran) quiet) in
+        let same : at + 1 ≡ at + 1 + zero = omega arith in
+        subst (λ n. Passed m lists first last s0 coarse now n) same (passed-step now at c.took.passed p)
+    passed-until until within calm from none (suc gap) h =
+        let more : at + 1 + gap + 1 ≤ until = omega (arith, h) in
+        let same : at + 1 + gap + 1 ≡ at + 1 + suc gap = omega arith in
+        subst (λ n. Passed m lists first last s0 coarse now n) same
+        (passed-step now (at + 1 + gap) (passed-until until within calm from none gap (omega (arith, h))) (passes-at until within calm from none gap more))
+
     pub comes-next : (next : ℕ) → at < next → next ≤ last → find (λ (a : Arrival). stops a.item) heads ≡ None → (AllFrom (at + 1) heads → AllFrom next heads) → (stands c.state [] → NoClose m.is_close at next)
         → Comes stands desk added now heads next b cs rs told0 told
     comes-next next past within none from closes =
@@ -233,7 +317,26 @@ module _ {Own : Type 0} (m : Meaning Own) (lists : FeedKey → List Item) (coars
           };
           calm = calm-heads lists are coarse (pos (at + 1)) (pos next) now heads (m.active c.state.own) c.knows.at calm;
           wrote = c.wrote;
+          passed = (let all : at + 1 + gap ≡ next = omega (arith, past) in
+              subst (λ n. Passed m lists first last s0 coarse now n) all (passed-until next (omega (arith, within)) calm ends (closes c.knows.core_is) gap (omega (arith, past))));
         }
+
+    pub exact-whole : find (λ (a : Arrival). stops a.item) heads ≡ None → (AllFrom (at + 1) heads → AllFrom (last + 1) heads) → (stands c.state [] → NoClose m.is_close at (last + 1))
+        → Passed m lists first last s0 coarse now (last + 1)
+    exact-whole none from closes =
+        let calm = none-found (λ (a : Arrival). stops a.item) heads none in
+        let ends = from (at-from coarse (at + 1) now heads (m.active c.state.own) c.knows.at) in
+        let gap = last - at in
+        let all : at + 1 + gap ≡ last + 1 = omega (arith, high) in
+        subst (λ n. Passed m lists first last s0 coarse now n) all (passed-until (last + 1) (omega arith) calm ends (closes c.knows.core_is) gap (omega (arith, high)))
+
+    pub exact-stopped : (a : Arrival) (x : Item) → find (λ (a : Arrival). stops a.item) heads ≡ Some a → a.item ≡ x → Stops m lists first last s0 coarse now x
+    exact-stopped a x found is = record {
+      at = at;
+      took = c.took;
+      stop = subst (λ (r : Ran (State Own) ℕ Halt). IsStop now (pos (at + 1)) (m.active r.state.own) x) (sym c.ran)
+          (subst (λ y. IsStop now (pos (at + 1)) (m.active c.state.own) y) is (heads-stop coarse (pos (at + 1)) now heads (m.active c.state.own) a c.knows.at found));
+    }
 
     pub ends-whole : find (λ (a : Arrival). stops a.item) heads ≡ None → (AllFrom (at + 1) heads → AllFrom (last + 1) heads) → (stands c.state [] → NoClose m.is_close at (last + 1))
         → IsEnd m lists first last s0 coarse now stands (after b cs) told0 told (Ok Whole)

@@ -1,5 +1,5 @@
 -- What is read off a list whose rows are sound.
-use Rattle.std.proofs.Common.{◌≡◌, ℕ, ◌+◌, Bool, true, false, ℤ, pos, ◌<ℤ◌, List, [], ◌∷◌, ◌++◌, Option, Some, None, refl, sym, ap, ◌∙◌, arith}
+use Rattle.std.proofs.Common.{◌≡◌, ℕ, Bool, true, false, ℤ, pos, ◌<ℤ◌, List, [], ◌∷◌, ◌++◌, Option, Some, None, refl, sym, ap, ◌∙◌, arith}
 use Rattle.std.specs.Prelude.{◌&&◌, ◌==◌, int_lt, int_le, nat_le, if◌then◌else◌, unsigned_abs, filter_map}
 use Rattle.std.specs.List.{AllByRecursion as Each, filter, list_all, cons_option}
 use Rattle.std.specs.Ordering.{int_eq}

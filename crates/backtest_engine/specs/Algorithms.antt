@@ -1,6 +1,6 @@
 -- What an algorithm means as a strategy: what a core stands for, how many feeds were ever added, and the equities of the close
 -- lines.
-use Rattle.std.specs.Prelude.{ℕ, ◌+◌, ℤ, false, if◌then◌else◌, List, [], ◌++◌, length, map, filter_map, Option, Some, None}
+use Rattle.std.specs.Prelude.{ℕ, ◌+◌, ℤ, false, if◌then◌else◌, List, [], ◌++◌, length, map, filter_map, Some, None}
 use Rattle.lean_fixed.specs.Moments.{first_moment}
 use Rattle.exchange_hours.specs.Grid.{is_closing}
 use Rattle.lean_orders.specs.declared.desk.Reply.{Reply}

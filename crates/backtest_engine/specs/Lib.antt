@@ -6,7 +6,9 @@ pub mod Phased
 pub mod Played
 pub mod Stands
 pub mod Opened
+pub mod Gave
 pub mod Moved
+pub mod Exact
 pub mod Walked
 pub mod Reported
 pub mod Last

@@ -19,6 +19,7 @@ use Rattle.backtest_engine.specs.Lists.{slice_at}
 use Rattle.backtest_engine.specs.Meaning.{Meaning, State, moment_of}
 use Rattle.backtest_engine.specs.Phased.{DeskStands}
 use Rattle.backtest_engine.specs.Stands.{AreAt, CoarseFailed}
+use Rattle.backtest_engine.specs.Gave.{AreSound}
 
 -- a failed read ended a moment
 abbrev pub IfReadFault : Result (Unit {0}) Cut → Type 0 → Type 0
@@ -69,6 +70,7 @@ module _ {Own : Type 0} (m : Meaning Own) (lists : FeedKey → List Item) (coars
     pub added_is : m.added (moment_at t s).state.own ≡ added
     pub at : AreAt coarse (pos (t + 1)) now heads (m.active (moment_at t s).state.own)
     pub wrote : IsTaken told0 told (moment_at t s).lines
+    pub sound : AreSound now (pos (t + 1)) (m.active s.own)
 
   abbrev pub Moved : (State Own → List FeedKey → Type 0) → ℕ → Feeds → List Arrival → ℕ → State Own → Book → Option (List ℕ) → Option (List ℕ) → Result (Unit {0}) Cut → Type 0
   Moved stands added now heads t s book told0 told (Ok x) = Goes stands added now heads t s book told0 told
@@ -77,3 +79,4 @@ module _ {Own : Type 0} (m : Meaning Own) (lists : FeedKey → List Item) (coars
   Moved stands added now heads t s book told0 told (Err cut.ReadFault) = (told ≡ told0) × CoarseFailed coarse now
   Moved stands added now heads t s book told0 told (Err (cut.Limited limit)) =
       ((moment_at t s).stop ≡ Some limit) × IsTaken told0 told (moment_at t s).lines
+      × AreSound now (pos (t + 1)) (m.active s.own)

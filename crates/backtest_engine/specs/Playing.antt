@@ -25,7 +25,7 @@ use Rattle.backtest_core.specs.Core.{StandsFor, StandsIn, requests_of}
 use Rattle.backtest_core.specs.Text.{lines_bytes}
 use Rattle.backtest_engine.specs.declared.algorithm.Algorithm.{Algorithm}
 use Rattle.backtest_engine.specs.declared.phase.Phase.{Phase}
-use Rattle.backtest_engine.specs.Algorithms.{Own, plan_of, core_phase_of, unphased, active_of, begun, played, rest_of, meaning_of}
+use Rattle.backtest_engine.specs.Algorithms.{Own, plan_of, core_phase_of, unphased, active_of, begun, rest_of, meaning_of}
 use Rattle.backtest_engine.specs.Meaning.{State, Meaning}
 use Rattle.backtest_engine.specs.Ranged.{Ranged}
 use Rattle.backtest_engine.specs.Turns.{Turn}

@@ -1,14 +1,11 @@
 -- What an algorithm owes as a strategy beside the clauses of its calls.
-use Rattle.std.proofs.Common.{◌≡◌, ℕ, ◌≤◌, List, [], ◌∷◌, ◌++◌, false, refl, ap, sym, subst, ◌∙◌, arith}
-use Rattle.std.specs.Prelude.{map}
+use Rattle.std.proofs.Common.{◌≡◌, ℕ, ◌≤◌, List, [], false, sym, subst, arith}
 use Rattle.lean_fixed.specs.Ranges.{IsMoney}
-use Rattle.lean_items.specs.declared.feed_key.FeedKey.{FeedKey}
 use Rattle.lean_orders.specs.declared.desk.Command.{Command}
 use Rattle.lean_orders.specs.declared.desk.Reply.{Reply}
 use Rattle.lean_orders.specs.declared.desk.Reply.TheVariants.{Event, Account, Done}
 use Rattle.clock_book.specs.Fitting.{most_orders}
 use Rattle.clock_steps.specs.Runs.{rests}
-use Rattle.clock_run.specs.States as clock
 use Rattle.backtest_core.specs.declared.stop.Stop as core
 use Rattle.backtest_core.specs.declared.stop.Stop.TheVariants as core_stop
 use Rattle.backtest_core.specs.Core.{requests_of}
@@ -16,7 +13,7 @@ use Rattle.backtest_engine.specs.declared.algorithm.Algorithm.{Algorithm}
 use Rattle.backtest_engine.specs.declared.limits.Limit.TheVariants.{Securities, Requests}
 use Rattle.backtest_engine.specs.declared.limits.Stop.{Stop}
 use Rattle.backtest_engine.specs.declared.limits.Stop.TheVariants.{NoMemory, Limited}
-use Rattle.backtest_engine.specs.Algorithms.{Own, rest_of, meaning_of}
+use Rattle.backtest_engine.specs.Algorithms.{Own}
 use Rattle.backtest_engine.specs.Meaning.{State, Meaning, moment_of}
 use Rattle.backtest_engine.specs.Meets.{IsMet}
 use Rattle.backtest_engine.specs.Playing.{Between, Within}

@@ -1,13 +1,13 @@
 -- A phase of an algorithm that was played whole: where its core stands, and what the next phase begins with.
-use Rattle.std.proofs.Common.{◌≡◌, ℕ, ◌+◌, ◌≤◌, List, [], ◌∷◌, ◌++◌, true, refl, ap, sym, subst, ◌∙◌, arith, inl, inr}
+use Rattle.std.proofs.Common.{◌≡◌, List, [], ◌++◌, true, refl, ap, sym, subst, ◌∙◌, arith, inl, inr}
 use Rattle.std.specs.Prelude.{◌⊎◌, Option, Some, None, length, map, filter_map}
 use Rattle.std.specs.List.{fold}
 use Rattle.std.proofs.lemmas.List.{append-nil}
 use Rattle.std.proofs.lemmas.List.Concat.{flat_map-append}
 use Rattle.lean_orders.specs.declared.desk.Command.{Command}
 use Rattle.lean_orders.specs.declared.desk.Reply.{Reply}
-use Rattle.clock_book.specs.Handled.{after, replies}
-use Rattle.clock_book.specs.Seen.{Seen, given_out, learnt, seen_of}
+use Rattle.clock_book.specs.Handled.{replies}
+use Rattle.clock_book.specs.Seen.{given_out, learnt}
 use Rattle.clock_run.specs.Lines.{line_bytes}
 use Rattle.clock_run.specs.Moments.{told, equity_told}
 use Rattle.clock_run.specs.Orderly.{NumbersRise}
@@ -16,16 +16,16 @@ use Rattle.report_stats.specs.Stands.{StandsFor as StatsStand}
 use Rattle.backtest_core.specs.declared.phase.Phase as core
 use Rattle.backtest_core.specs.declared.phase.Phase.TheVariants as core_phase
 use Rattle.backtest_core.specs.declared.standing.Core.{Core}
-use Rattle.backtest_core.specs.Standing.{Followed, Standing}
-use Rattle.backtest_core.specs.Inside.{Inside, begins, entered, commands_of, is_over_in}
+use Rattle.backtest_core.specs.Standing.{Followed}
+use Rattle.backtest_core.specs.Inside.{Inside, begins, commands_of, is_over_in}
 use Rattle.backtest_core.specs.Core.{StandsIn}
 use Rattle.backtest_core.specs.Text.{lines_bytes}
-use Rattle.backtest_core.specs.Whole.{given_all, heard_all}
+use Rattle.backtest_core.specs.Whole.{given_all}
 use Rattle.backtest_core.proofs.PhaseLemmas.{entered-is}
 use Rattle.backtest_engine.specs.declared.algorithm.Algorithm.{Algorithm}
 use Rattle.backtest_engine.specs.declared.phase.Phase.{Phase}
 use Rattle.backtest_engine.specs.declared.phase.Phase.TheVariants.{Prices, Rules, Close}
-use Rattle.backtest_engine.specs.Algorithms.{Own, plan_of, core_phase_of, unphased, subscribed, active_of, begun, meaning_of}
+use Rattle.backtest_engine.specs.Algorithms.{Own, plan_of, core_phase_of, unphased, subscribed, begun, meaning_of}
 use Rattle.backtest_engine.specs.Meaning.{Subscription, Meaning}
 use Rattle.backtest_engine.specs.Playing.{Waits, Plays, Within, behind_all}
 use Rattle.backtest_engine.specs.Turns.{Turn, HasNext, next_phase, numbered, IsFinished, text_after, turn_after}

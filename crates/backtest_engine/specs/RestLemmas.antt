@@ -1,9 +1,8 @@
 -- An algorithm between two moments, none of whose securities waits.
-use Rattle.std.proofs.Common.{◌≡◌, ℕ, ◌+◌, List, [], ◌∷◌, ◌++◌, false, refl, ap, sym, subst, ◌∙◌}
+use Rattle.std.proofs.Common.{◌≡◌, ℕ, List, [], ◌∷◌, ◌++◌, false, refl, ap, sym, subst, ◌∙◌}
 use Rattle.std.specs.Prelude.{map, Bool, true}
 use Rattle.std.proofs.lemmas.Bool.{false≢true}
 use Rattle.lean_items.specs.declared.feed_key.FeedKey.{FeedKey}
-use Rattle.exchange_hours.specs.Grid.{is_closing}
 use Rattle.clock_run.specs.Lines.{Line}
 use Rattle.clock_run.specs.States.{Setup, Subscription}
 use Rattle.clock_steps.specs.Runs.{rests}

@@ -6,7 +6,7 @@ use Rattle.lean_items.specs.declared.arrival.Arrival.{Arrival}
 use Rattle.lean_items.specs.declared.feed_key.FeedKey.{FeedKey}
 use Rattle.lean_items.specs.declared.item.Item.{Item}
 use Rattle.lean_items.specs.declared.item.Item.TheVariants as item
-use Rattle.lean_items.specs.Taken.{Start, Feeds, Taken, AllFollow}
+use Rattle.lean_items.specs.Taken.{Start, Feeds, Taken, AllFollow, more}
 use Rattle.frontier_sync.specs.Heads.{fits_first}
 use Rattle.frontier_sync.specs.Slices.{ends_at}
 use Rattle.frontier_sync.specs.Stands.{AtHead, AreBars, IsList, IsTaken}
@@ -74,9 +74,14 @@ CoarseFailed coarse feeds =
 
 -- ---- feeds that are added
 
--- what follows the lists later followed them before
+-- what was taken of the feeds of a pool by some time is a front of what was taken of them later
+abbrev pub HasMore : Feeds → Feeds → Type 0
+HasMore feeds now = (n : ℕ) (taken : Taken) → feeds n ≡ Some taken → (rest : List Item) × (now n ≡ Some (more rest taken))
+
+-- it is, and what follows the lists later followed them before
 abbrev pub IsEarlier : Feeds → Feeds → Type 0
-IsEarlier feeds now = (lists : FeedKey → List Item) → AllFollow lists now → AllFollow lists feeds
+IsEarlier feeds now =
+    ((lists : FeedKey → List Item) → AllFollow lists now → AllFollow lists feeds) × HasMore feeds now
 
 -- what a pool has: each head was taken of its feed, and the keys of all feeds are kept by their numbers
 pub record Stock (stands : Start → Feeds → Type 0) (before : Start) (added : ℕ) (heads : List Arrival) (keys : List FeedKey) (feeds : Feeds) : Type 0 where

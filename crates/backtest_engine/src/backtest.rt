@@ -15,6 +15,7 @@ ghost use Rattle.frontier_sync.specs.Stays.{Stays};
 ghost use Rattle.backtest_engine.specs.Meaning.{Meaning, State};
 ghost use Rattle.backtest_engine.specs.Phased.{GoesOn};
 ghost use Rattle.backtest_engine.specs.Stands.{AreLists, HasFaulted};
+ghost use Rattle.backtest_engine.specs.Exact.{ended_as, IsExact};
 ghost use Rattle.backtest_engine.specs.Walked.{IfFault, IsEnd, AllMeet};
 ghost use Rattle.backtest_engine.specs.Reported.{IsOpening, IsReport};
 
@@ -68,6 +69,14 @@ pub fn run_strategy<C: Strategy, P: Pool, D: Desk, S: Sink>(
         → AllMeet (C.meets m) m lists first last s
         → (now : Feeds) × AllFollow lists now
         × IsReport m lists first last s coarse now (S.told out.old) (S.told out.new) result }
+    ensures exact { (before : Start) (lists : Key → List GivenItem) (m : Meaning C.Own) (s : State C.Own) (b : ClockBook)
+        → P.stands pool.old before no_feeds → P.lists pool.old ≡ Some lists → AreLists lists
+        → D.stands desk b [] [] → C.stands core.old m s opening.now
+        → IsOpening m coarse first opening.now s b
+        → AllMeet (C.meets m) m lists first last s
+        → (now : Feeds) × AllFollow lists now
+        × IsReport m lists first last s coarse now (S.told out.old) (S.told out.new) result
+        × IsExact m lists first last s coarse now result }
     ensures read { (before : Start) → P.stands pool.old before no_feeds
         → result ≡ Ended.ReadFault → Rose before.faults (P.faults pool.new) }
     ensures write { result ≡ Ended.WriteFault → Rose (S.faults out.old) (S.faults out.new) }
@@ -113,7 +122,8 @@ fn start<C: Strategy, P: Pool, D: Desk, S: Sink>(
         → AreLists lists → AllFollow lists now → IsRight b ds more
         → D.stands desk.old b [] [] → C.stands core.old m s opening.now → IsOpening m coarse first opening.now s b
         → AllMeet (C.meets m) m lists first last s
-        → IsEnd m lists first last s coarse now (C.stands core.new m) (after b ds) (S.told out.old) (S.told out.new) result)) }
+        → IsEnd m lists first last s coarse now (C.stands core.new m) (after b ds) (S.told out.old) (S.told out.new) result
+        × IsExact m lists first last s coarse now (ended_as result))) }
     ensures closed { (D.starved desk.new ≡ true) ⊎ (D.answered desk.new ≡ D.submitted desk.new) }
     ensures fed { OnOk result (D.starved desk.new ≡ false) }
     ensures write { result ≡ Err Cut.WriteFault → Rose (S.faults out.old) (S.faults out.new) }

@@ -11,6 +11,7 @@ ghost use Rattle.report_pages.specs.Lines.{data_line};
 ghost use Rattle.backtest_engine.specs.Meaning.{Meaning, State};
 ghost use Rattle.backtest_engine.specs.Reports.{limit_line};
 ghost use Rattle.backtest_engine.specs.Walked.{IsEnd};
+ghost use Rattle.backtest_engine.specs.Exact.{EndsAs};
 ghost use Rattle.backtest_engine.specs.Reported.{IsReport, IsFault, IfWhole};
 ghost use Rattle.backtest_engine.specs.Last.{IsWritten};
 
@@ -37,6 +38,7 @@ pub(crate) fn end<C: Strategy, S: Sink>(
         → IsEnd m lists first last s0 coarse now (C.stands core.now m) b told0 (S.told out.old) walked
         → IfWhole walked (StandsFor book.now b)
         → IsReport m lists first last s0 coarse now told0 (S.told out.new) result }
+    ensures ends { EndsAs walked result }
     ensures fault { result ≡ Ended.ReadFault → IsFault walked }
     ensures write { result ≡ Ended.WriteFault → (walked ≡ Err Cut.WriteFault) ⊎ Rose (S.faults out.old) (S.faults out.new) }
     ensures sink_grows { S.faults out.old ≤ S.faults out.new }

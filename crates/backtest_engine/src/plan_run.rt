@@ -11,6 +11,7 @@ ghost use Rattle.rule_strategy.specs.Validity.{IsPlan};
 ghost use Rattle.frontier_sync.specs.Stays.{Stays};
 ghost use Rattle.backtest_engine.specs.Algorithms.{meaning_of, opening_state};
 ghost use Rattle.backtest_engine.specs.Backtests.{IsBacktest};
+ghost use Rattle.backtest_engine.specs.Exact.{IsExact};
 ghost use Rattle.backtest_engine.specs.Feeds.{list_of};
 ghost use Rattle.backtest_engine.specs.Reported.{IsReport};
 
@@ -65,6 +66,16 @@ pub fn run<P: Pool, D: Desk, S: Sink>(
         × IsReport (meaning_of (record { plan = plan; hours = arc_value hours })) (list_of files (arc_value hours) plan.window)
         (first_moment plan.window) (last_moment plan.window) (opening_state (record { plan = plan; hours = arc_value hours }))
         (is_some plan.universe) now (S.told out.old) (S.told out.new) result }
+    ensures exact { (before : Start) (files : Files)
+        → P.stands pool.old before no_feeds → P.lists pool.old ≡ Some (list_of files (arc_value hours) plan.window)
+        → D.stands desk (new_book plan.cash.0 plan.costs plan.leverage (arc_value hours)) [] []
+        → result ≢ Ended.NoMemory → (now : Feeds) × AllFollow (list_of files (arc_value hours) plan.window) now
+        × IsReport (meaning_of (record { plan = plan; hours = arc_value hours })) (list_of files (arc_value hours) plan.window)
+        (first_moment plan.window) (last_moment plan.window) (opening_state (record { plan = plan; hours = arc_value hours }))
+        (is_some plan.universe) now (S.told out.old) (S.told out.new) result
+        × IsExact (meaning_of (record { plan = plan; hours = arc_value hours })) (list_of files (arc_value hours) plan.window)
+        (first_moment plan.window) (last_moment plan.window) (opening_state (record { plan = plan; hours = arc_value hours }))
+        (is_some plan.universe) now result }
     ensures read { (before : Start) → P.stands pool.old before no_feeds
         → result ≡ Ended.ReadFault → Rose before.faults (P.faults pool.new) }
     ensures write { result ≡ Ended.WriteFault → Rose (S.faults out.old) (S.faults out.new) }

@@ -17,6 +17,7 @@ ghost use Rattle.backtest_engine.specs.Phased.{GoesOn};
 ghost use Rattle.backtest_engine.specs.Stands.{AreLists, AreCalm, IsEarlier, Stock, HasFaulted};
 ghost use Rattle.backtest_engine.specs.Opened.{AreNumbered};
 ghost use Rattle.backtest_engine.specs.Moved.{Knows};
+ghost use Rattle.backtest_engine.specs.Exact.{ended_as, EndsBy};
 ghost use Rattle.backtest_engine.specs.Walked.{AllFrom, NoClose, IfFault, IsEnd, IsEnding, AllMeet};
 
 use crate::ending::{Cut, Ending};
@@ -62,7 +63,8 @@ pub(crate) fn walk<C: Strategy, P: Pool, D: Desk, S: Sink>(
         → Knows m lists coarse (C.stands core.old m) (D.stands desk.old) (P.added pool.old) feeds heads.old first s0 b cs rs
         → AreCalm lists (pos first) heads.old (m.active s0.own)
         → AllMeet (C.meets m) m lists first last s0
-        → IsEnd m lists first last s0 coarse now (C.stands core.new m) (after b (cs ++ ds)) (S.told out.old) (S.told out.new) result)) }
+        → IsEnd m lists first last s0 coarse now (C.stands core.new m) (after b (cs ++ ds)) (S.told out.old) (S.told out.new) result
+        × EndsBy m lists first last s0 coarse now (ended_as result))) }
     ensures closed { (D.starved desk.new ≡ true) ⊎ (D.answered desk.new ≡ D.submitted desk.new) }
     ensures fed { OnOk result (D.starved desk.new ≡ false) }
     ensures write { result ≡ Err Cut.WriteFault → Rose (S.faults out.old) (S.faults out.new) }

@@ -2,6 +2,7 @@ use Rattle.std.proofs.Common.{◌≡◌, ◌+◌, ◌<◌, ◌++◌, ◌∷◌, 
 use Rattle.std.proofs.lemmas.List.{take_more, length-take-le, length-drop}
 use Rattle.frontier_sync.proofs.TakenLemmas.{stays-more}
 use Rattle.backtest_engine.specs.Opened.{Opened}
+use Rattle.backtest_engine.proofs.GaveLemmas.{earlier-then}
 use Rattle.backtest_engine.proofs.FeedLemmas.{drop-next, opened-more}
 use Rattle.backtest_engine.proofs.feeds.add_all.Goals as goal
 
@@ -9,7 +10,7 @@ pub returns-in-Err-clause-stands : goal.returns-in-Err-clause-stands
 returns-in-Err-clause-stands g c before feeds stock =
     let (later, earlier, o) = c.keys.invariant.known before feeds stock in
     let (now, stand, before_now, made) = c.in-Err.ensures.stands before later o.stock in
-    (now, stand, (λ lists follow. earlier lists (before_now lists follow)), tt)
+    (now, stand, earlier-then feeds later now earlier before_now, tt)
 
 pub keys-preserved : goal.keys-preserved
 keys-preserved g c =
@@ -41,7 +42,7 @@ keys-preserved g c =
           (let (later, earlier, o) = inv.known before feeds stock in
           let (now, stand, before_now, made) = did.stands before later o.stock in (
             now,
-            (λ lists follow. earlier lists (before_now lists follow)),
+            earlier-then feeds later now earlier before_now,
             subst (λ ks. Opened (P.stands new) before (P.added first) (P.added new) feeds now c.args.heads.now c.add_one.new.heads c.add_one.new.keys.items ks) (sym taken)
                 (opened-more (P.stands pool) (P.stands new) before (P.added first) (P.added pool) (P.added new) feeds later now c.args.heads.now c.keys.heads c.add_one.new.heads
                 c.keys.keys.items c.add_one.new.keys.items (take place added) key (omega (arith, inv.added, count)) before_now o made),

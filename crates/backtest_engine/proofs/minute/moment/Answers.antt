@@ -1,13 +1,13 @@
-use Rattle.std.proofs.Common.{◌≡◌, true, false, [], ◌++◌, refl, sym, ◌∙◌, subst}
+use Rattle.std.proofs.Common.{◌≡◌, ◌+◌, pos, true, false, [], ◌++◌, refl, sym, ◌∙◌, subst}
 use Rattle.std.specs.Prelude.{find}
 use Rattle.lean_items.specs.declared.arrival.Arrival.{Arrival}
 use Rattle.clock_book.specs.Handled.{after as book_after}
 use Rattle.frontier_sync.specs.Heads.{stops}
 use Rattle.frontier_sync.specs.Slices.{taken_all}
-use Rattle.frontier_sync.proofs.StandLemmas.{all-front}
 use Rattle.backtest_engine.specs.Opened.{AreNumbered}
 use Rattle.backtest_engine.specs.Stands.{HasFaulted, Stock, broken}
 use Rattle.backtest_engine.specs.Moved.{moment_at}
+use Rattle.backtest_engine.proofs.GaveLemmas.{earlier-then, earlier-taken, later-sound}
 use Rattle.backtest_engine.proofs.PhaseLemmas.{goes-none}
 use Rattle.backtest_engine.proofs.MinuteLemmas.{numbered-next, stock-taken, broken-failed, not-true, not-false, faulted-of, front-nothing, settled-fault, halted-fault, on-ok-map, slice-step, halted-moved, settled-moved}
 use Rattle.backtest_engine.proofs.minute.moment.Goals as goal
@@ -28,7 +28,7 @@ returns-in-Ok-false-clause-moved g c =
           let failed = broken-failed c.args.coarse after now stock1.taken is_broken in (
             now,
             stock1.stand,
-            (λ lists follow. all-front lists feeds taken follow),
+            earlier-taken feeds taken,
             faulted-of c.args.coarse now failed,
             tt,
             λ lists m t s b cs rs are follow right is knows calm met. (refl, failed),
@@ -44,7 +44,7 @@ returns-in-Err-clause-moved g c =
       λ before feeds stock. (
         taken_all feeds taken,
         moves before feeds stock.stand,
-        (λ lists follow. all-front lists feeds taken follow),
+        earlier-taken feeds taken,
         tt,
         tt,
         λ lists m t s b cs rs are follow right is knows calm met. front-nothing (g.S.Sink.told c.args.out.now) (moment_at m lists c.args.coarse t s).lines,
@@ -86,16 +86,16 @@ returns-in-Ok-clause-moved g c =
           let (now, stand, earlier, opened) = c.settle.ensures.stands before mid stock1 in (
             now,
             stand,
-            (λ lists follow. all-front lists feeds taken (earlier lists follow)),
+            earlier-then feeds mid now (earlier-taken feeds taken) earlier,
             settled-fault (HasFaulted now) (S.text core1) told0 told c.settle.result c.settle.ensures.wrote,
             on-ok-map _ _ c.settle.result (λ o. o.stock) opened,
             λ lists m t s b cs rs are follow right is knows calm met.
-                (let step = slice-step lists are c.args.coarse c.args.at t feeds taken c.args.heads.now after c.deref.result.now (m.active s.own) is (earlier lists follow) knows.at calm sliced c.in-Ok-true.ensures.rising sound given in
+                (let step = slice-step lists are c.args.coarse c.args.at t feeds taken c.args.heads.now after c.deref.result.now (m.active s.own) is (earlier.0 lists follow) knows.at calm sliced c.in-Ok-true.ensures.rising sound given in
                 let meets = subst (λ xs. S.meets m t xs s) (sym step.1) met in
                 let played = plays m s t b cs rs is knows.core_is meets knows.desk_is knows.book right in
                 settled-moved m lists c.args.coarse (S.stands core1 m) (S.stands c.settle.new.core m) (P.stands pool2) before (S.text core1) (P.added pool1) (P.added pool2) mid now after c.settle.new.heads c.deref.result.now c.settle.new.keys.items ks removed
                 t s _ told0 told c.settle.result are follow step.1 (knows.added_is ∙ sym c.take_slice.ensures.added) step.0 played c.settle.ensures.wrote opened c.settle.ensures.added
-                (on-ok-map _ _ c.settle.result (λ n z h e. n m z h e) c.settle.ensures.named)),
+                (on-ok-map _ _ c.settle.result (λ n z h e. n m z h e) c.settle.ensures.named) (later-sound mid now (pos (t + 1)) (m.active s.own) earlier.1 step.2)),
           )),
     )
 
@@ -120,13 +120,13 @@ returns-in-Err-play-clause-moved g c =
           (let now = taken_all feeds taken in (
             now,
             moves before feeds stock.stand,
-            (λ lists follow. all-front lists feeds taken follow),
+            earlier-taken feeds taken,
             halted-fault (HasFaulted now) (S.text core1) stop told0 told c.stopped.result c.stopped.ensures.wrote,
             tt,
             λ lists m t s b cs rs are follow right is knows calm met.
                 (let step = slice-step lists are c.args.coarse c.args.at t feeds taken c.args.heads.now after c.deref.result.now (m.active s.own) is follow knows.at calm sliced c.in-Ok-true.ensures.rising sound given in
                 let meets = subst (λ xs. S.meets m t xs s) (sym step.1) met in
                 let played = plays m s t b cs rs is knows.core_is meets knows.desk_is knows.book right in
-                halted-moved m lists c.args.coarse (S.stands core1 m) (S.text core1) (P.added c.take_slice.new.pool) now after c.deref.result.now t s (book_after b (cs ++ ds)) told0 told stop c.stopped.result step.1 played c.stopped.ensures.wrote),
+                halted-moved m lists c.args.coarse (S.stands core1 m) (S.text core1) (P.added c.take_slice.new.pool) now after c.deref.result.now t s (book_after b (cs ++ ds)) told0 told stop c.stopped.result step.1 played c.stopped.ensures.wrote step.2),
           )),
     )
