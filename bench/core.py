@@ -194,13 +194,13 @@ fn number(word: &str) -> u32 {
 }
 
 fn main(rt: HostRuntime) -> std::io::Result<()> {
-    let mut numbers = [0u32; 4];
+    let mut numbers = [0u32; 5];
     let mut place = 0usize;
     for word in env::args(&rt)? {
-        numbers[place % 4] = number(word.as_str());
+        numbers[place % 5] = number(word.as_str());
         place = place.wrapping_add(1);
     }
-    let commands = run(rt.alloc(), numbers[0], numbers[1], numbers[2], numbers[3] == 1).unwrap_or(0);
+    let commands = run(rt.alloc(), numbers[1], numbers[2], numbers[3], numbers[4] == 1).unwrap_or(0);
     println!(rt; "{commands}")
 }
 """
