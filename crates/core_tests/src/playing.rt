@@ -2,7 +2,9 @@
 ghost use Rattle.std.specs.Prelude.{IfOk, IfSome};
 ghost use Rattle.lean_fixed.specs.Ranges.{IsPrintedMoment};
 ghost use Rattle.clock_book.specs.Fitting.{IsFitting};
+ghost use Rattle.rule_strategy.specs.Validity.{IsPlan};
 
+use crate::slices::symbol;
 use backtest_core::{Core, Phase, Stop};
 use exchange_hours::Hours;
 use lean_fixed::{Moment, NoMemory, Symbol};
@@ -25,26 +27,43 @@ pub struct Game {
 
 /// A core of a plan and its book, before the first moment. What the plan lists has its feeds.
 pub fn begin(alloc: Global, plan: &str) -> Result<Game, Fail> {
-    let plan = match Plan::read(alloc, plan.as_bytes()) {
-        Ok(plan) => plan,
-        Err(_) => return Err(Fail::from("a plan")),
-    };
-    let hours = Arc::new(alloc, Hours::read(alloc, HOURS.as_bytes())?)?;
-    let book = Book::new(alloc, plan.cash, plan.costs, plan.leverage, hours.clone()?);
-    let mut listed = Vec::new(alloc);
-    for security in &plan.securities.0 {
-        listed.push(security.symbol)?;
+    let mut game = unnamed(alloc, plan)?;
+    for listed in plan.split("[[securities]]\nsymbol = \"").skip(1) {
+        name_listed(&mut game, listed)?;
     }
-    let core = Core::begin(alloc, plan, hours)?;
-    let mut game = Game {
+    Ok(game)
+}
+
+// A security that a plan lists, up to its quotation mark, gets its feed.
+fn name_listed(game: &mut Game, listed: &str) -> Result<(), Fail> {
+    let word = listed.split('"').next().ok_or("a symbol")?;
+    name(game, symbol(word)?)?;
+    Ok(())
+}
+
+// A core of a plan and its book, before any feed has its number.
+fn unnamed(alloc: Global, plan: &str) -> Result<Game, Fail> {
+    match Plan::read(alloc, plan.as_bytes()) {
+        Ok(plan) => game_of(alloc, plan),
+        Err(_) => Err(Fail::from("a plan")),
+    }
+}
+
+fn game_of(alloc: Global, plan: Plan) -> Result<Game, Fail>
+    requires { IsPlan plan }
+{
+    let book = Book::new(alloc, plan.cash, plan.costs, plan.leverage, hours(alloc)?);
+    let core = Core::begin(alloc, plan, hours(alloc)?)?;
+    Ok(Game {
         core,
         book,
         feeds: 0,
-    };
-    for symbol in &listed {
-        name(&mut game, *symbol)?;
-    }
-    Ok(game)
+    })
+}
+
+fn hours(alloc: Global) -> Result<Arc<Hours>, Fail> {
+    let hours = Hours::read(alloc, HOURS.as_bytes())?;
+    Ok(Arc::new(alloc, hours)?)
 }
 
 /// A security gets the next number of a feed.
