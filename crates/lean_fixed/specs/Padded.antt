@@ -1,5 +1,5 @@
 -- A symbol that is kept in an array of twelve bytes.
-use Rattle.std.specs.Prelude.{◌≡◌, ℕ, ◌-◌, ◌≤◌, IsTrue, List, ◌++◌, length, take, drop, replicate}
+use Rattle.std.specs.Prelude.{◌≡◌, ℕ, ◌-◌, ◌≤◌, IsTrue, List, [], ◌∷◌, ◌++◌, length, take, drop, replicate}
 use Rattle.std.proofs.Common.{arith}
 use Rattle.std.proofs.lemmas.List.{take-append-drop, length-take-le}
 use Rattle.lean_fixed.specs.Symbol.{is_symbol}
@@ -7,6 +7,10 @@ use Rattle.lean_fixed.specs.Symbol.{is_symbol}
 -- the text and zeros behind it, `size` bytes in all
 abbrev pub padded_to : ℕ → List ℕ → List ℕ
 padded_to size text = text ++ replicate (size - length text) 0
+
+-- what a symbol feeds a hasher: one write of the twelve bytes
+abbrev pub padded_writes : List ℕ → List (List ℕ)
+padded_writes text = padded_to 12 text ∷ []
 
 -- twelve bytes of which the first `len` are a symbol and the others are zero
 pub record IsPadded (padded : List ℕ) (len : ℕ) : Type 0 where

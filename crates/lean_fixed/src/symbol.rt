@@ -5,6 +5,7 @@ ghost use Rattle.std.specs.Cmp.{partial_equiv_from_equiv};
 ghost use Rattle.std.specs.Cmp.Lexicographic.{pointwise, bytes_decides, slice_cmp, nat_list_eq_equiv, nat_list_cmp_total, texts_po, texts_ties};
 ghost use Rattle.std.specs.Hash as fed;
 ghost use Rattle.lean_fixed.specs.Symbol.{is_symbol, is_symbol_byte};
+ghost use Rattle.lean_fixed.specs.Padded.{padded_to, padded_writes};
 
 use std::cmp::Ordering;
 use std::hash::{Hash, Hasher};
@@ -62,6 +63,13 @@ impl Symbol {
         ensures value { result.now ≡ self.now }
     {
         &self.padded[..self.len as usize]
+    }
+
+    // The twelve bytes that are kept.
+    fn padded(&self) -> &[u8]
+        ensures { result.now ≡ padded_to 12 self.now }
+    {
+        &self.padded
     }
 
     /// Writes the bytes of the name at a place of a buffer, and gives the place behind them. The twelve bytes from the place
@@ -141,11 +149,12 @@ impl Ord for Symbol {
 }
 
 impl Hash for Symbol {
-    ghost hash_input = { fed.slice fed.u8 };
+    ghost hash_input = { padded_writes };
 
-    ghost respects_eq = { (fed.same_Alike (fed.slice fed.u8) bytes_decides).fed };
+    ghost respects_eq = { (fed.same_Alike padded_writes bytes_decides).fed };
 
+    // One write of a length that is known is some ten steps of a hasher, one of each byte as many again for each.
     fn hash<H: Hasher>(&self, state: &mut H) {
-        self.bytes().hash(state);
+        state.write(self.padded());
     }
 }
