@@ -41,8 +41,7 @@ impl Mirror {
         if !price.is_in_range() {
             return Ok(());
         }
-        self.account.hold(symbol)?;
-        self.account.mark(symbol, price);
+        self.account.hold_at(symbol, price)?;
         Ok(())
     }
 

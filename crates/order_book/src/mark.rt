@@ -24,8 +24,7 @@ impl Book {
     {
         out.reserve(1)?;
         self.market.bars.reserve(1)?;
-        self.ledger.portfolio.hold(symbol)?;
-        self.ledger.portfolio.mark(symbol, bar.closing);
+        self.ledger.portfolio.hold_at(symbol, bar.closing)?;
         self.market.keep(symbol, bar);
         say(&[Reply::Done], out);
         Ok(())

@@ -1,5 +1,5 @@
 //! The table of what is held, by symbol.
-ghost use Rattle.std.specs.Prelude.{◌≡◌, ℕ, List, ◌++◌, [], ◌∷◌, true, false, Some, OnOk, OnErr, slice_get, if◌then◌else◌};
+ghost use Rattle.std.specs.Prelude.{◌≡◌, ℕ, List, ◌++◌, [], ◌∷◌, true, false, Some, is_some, OnOk, OnErr, IfSome, IfNone, slice_get, if◌then◌else◌};
 ghost use Rattle.std.specs.List.{IsDistinct};
 ghost use Rattle.portfolio.specs.Symbols.{same_symbol, is_among};
 ghost use Rattle.portfolio.specs.Account.{holding_in, keys_in};
@@ -45,23 +45,25 @@ pub fn is_held(holdings: &Holdings, symbol: &Symbol) -> bool
     holdings.contains_key(symbol)
 }
 
-/// Gives the symbol another price, and answers what was held before.
-pub fn set_price(holdings: &mut Holdings, symbol: &Symbol, price: Price) -> Holding
-    requires { is_among symbol.now (keys_in holdings.old.entries) ≡ true }
-    ensures before { result ≡ holding_in holdings.old.entries symbol.now }
-    ensures after { (s : List ℕ) → holding_in holdings.new.entries s
+/// Gives the symbol another price where it has an entry, and answers what was held before. `None` exactly where it has no entry,
+/// and then nothing has changed.
+pub fn set_price(holdings: &mut Holdings, symbol: &Symbol, price: Price) -> Option<Holding>
+    ensures before { IfSome result (λ before. before ≡ holding_in holdings.old.entries symbol.now) }
+    ensures after { IfSome result (λ _. (s : List ℕ) → holding_in holdings.new.entries s
         ≡ (if same_symbol symbol.now s
         then record { lot = (holding_in holdings.old.entries s).lot; price = Some price }
-        else holding_in holdings.old.entries s) }
+        else holding_in holdings.old.entries s)) }
     ensures keys { keys_in holdings.new.entries ≡ keys_in holdings.old.entries }
+    ensures there { is_some result ≡ is_among symbol.now (keys_in holdings.old.entries) }
+    ensures none { IfNone result (holdings.new.entries ≡ holdings.old.entries) }
 {
     match holdings.get_mut(symbol) {
         Some(holding) => {
             let before = *holding;
             holding.price = Some(price);
-            before
+            Some(before)
         }
-        None => unreachable!(),
+        None => None,
     }
 }
 

@@ -26,7 +26,7 @@ impl Model for Portfolio {
 }
 
 impl Portfolio {
-    ghost use Rattle.std.specs.Prelude.{◌≡◌, ◌+◌, ◌<◌, ◌≤◌, ℤ, length, List, [], ◌∷◌, ◌++◌, true, Option, OnOk, OnErr, option_map, slice_get, if◌then◌else◌};
+    ghost use Rattle.std.specs.Prelude.{◌≡◌, ◌+◌, ◌<◌, ◌≤◌, ℤ, length, List, [], ◌∷◌, ◌++◌, true, false, Option, OnOk, OnErr, option_map, slice_get, if◌then◌else◌};
     ghost use Rattle.lean_fixed.specs.Ranges.{IsStartingCash, IsMoney, IsPosition, IsPrice};
     ghost use Rattle.lean_orders.specs.declared.event.Fill.{Fill};
     ghost use Rattle.lean_orders.specs.Traded.{IsFill};
@@ -95,10 +95,51 @@ impl Portfolio {
         ensures held { held self.new ≡ held self.old }
         ensures count { fills_applied self.new ≡ fills_applied self.old }
     {
+        let _marked = self.mark_held(symbol, price);
+    }
+
+    /// Makes an entry for the symbol where there is none, and its price is this one from now on: `hold` and `mark`, by one step
+    /// in the table where the symbol has an entry. At `NoMemory` the portfolio is as it was.
+    pub fn hold_at(&mut self, symbol: Symbol, price: Price) -> Result<(), NoMemory>
+        requires price { IsPrice price.0 }
+        ensures stands { OnOk result ((start : ℤ) (fills : List Fill) (marks : List Mark)
+            → StandsFor self.old start fills marks
+            → StandsFor self.new start fills (marks ++ record { symbol = symbol; price = price.0 } ∷ [])) }
+        ensures held { OnOk result (held self.new ≡ (if is_among symbol (held self.old)
+            then held self.old else held self.old ++ symbol ∷ [])) }
+        ensures count { fills_applied self.new ≡ fills_applied self.old }
+        ensures there { OnOk result (is_among symbol (held self.new) ≡ true) }
+        ensures err { OnErr result (self.new ≡ self.old) }
+    {
+        if self.mark_held(symbol, price) {
+            return Ok(());
+        }
+        self.hold(symbol)?;
+        self.mark(symbol, price);
+        Ok(())
+    }
+
+    // The price of a symbol that has an entry is this one from now on. False exactly where it has none, and then nothing has
+    // changed.
+    fn mark_held(&mut self, symbol: Symbol, price: Price) -> bool
+        requires { IsPrice price.0 }
+        ensures stands { result ≡ true → (start : ℤ) (fills : List Fill) (marks : List Mark)
+            → StandsFor self.old start fills marks
+            → StandsFor self.new start fills (marks ++ record { symbol = symbol; price = price.0 } ∷ []) }
+        ensures held { held self.new ≡ held self.old }
+        ensures count { fills_applied self.new ≡ fills_applied self.old }
+        ensures there { result ≡ is_among symbol (held self.old) }
+        ensures kept { result ≡ false → self.new ≡ self.old }
+    {
         self.check_totals();
         self.check(&symbol);
-        let before = set_price(&mut self.holdings, &symbol, price);
-        self.totals = self.totals.marked(&before, price);
+        match set_price(&mut self.holdings, &symbol, price) {
+            Some(before) => {
+                self.totals = self.totals.marked(&before, price);
+                true
+            }
+            None => false,
+        }
     }
 
     /// Applies a fill. Its symbol has an entry, and fewer than 1,000,000 fills were applied.

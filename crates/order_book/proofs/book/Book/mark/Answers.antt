@@ -19,7 +19,7 @@ returns-clause-ok c =
     let bars : c.reserve-2.new.self.entries ≡ c.args.self.now.bars = search rules in
     let said : c.say.new.out.items ≡ c.args.out.now.items ++ Done ∷ [] = search rules in
     serves_mark c.args.self.now _ c.args.symbol c.args.bar.now c.args.out.now.items c.say.new.out.items costs leverage hours orders fills
-    (λ start fills marks stands. c.mark.ensures.stands start fills marks
-    (c.in_ok-hold.ensures.stands start fills marks (subst (λ (kept : Kept). StandsFor kept.account start fills marks) (sym c.self.view_is) stands)))
+    (λ start fills marks stands. c.in_ok-hold_at.ensures.stands start fills marks
+    (subst (λ (kept : Kept). StandsFor kept.account start fills marks) (sym c.self.view_is) stands))
     (λ s. c.keep.ensures.kept s
     ∙ ap (λ entries. if same_symbol s c.args.symbol && c.args.bar.now.real then Some c.args.bar.now else lookup (same_symbol s) entries) bars) said
