@@ -8,9 +8,9 @@ use Rattle.lean_fixed.specs.Symbol.{is_symbol}
 abbrev pub padded_to : ℕ → List ℕ → List ℕ
 padded_to size text = text ++ replicate (size - length text) 0
 
--- what a symbol feeds a hasher: one write of the twelve bytes
+-- what a symbol feeds a hasher: the first eight of its twelve bytes, and the others
 abbrev pub padded_writes : List ℕ → List (List ℕ)
-padded_writes text = padded_to 12 text ∷ []
+padded_writes text = take 8 (padded_to 12 text) ∷ take 4 (drop 8 (padded_to 12 text)) ∷ []
 
 -- twelve bytes of which the first `len` are a symbol and the others are zero
 pub record IsPadded (padded : List ℕ) (len : ℕ) : Type 0 where
