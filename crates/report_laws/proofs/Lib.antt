@@ -1,0 +1,4 @@
+pub mod BookLemmas
+pub mod PaidLemmas
+pub mod PriceLemmas
+pub mod AccountLemmas
