@@ -1,6 +1,6 @@
 -- What a report says of its account is what the fills above add up to, at the closing prices of the last bars.
 use Rattle.std.proofs.Common.{◌≡◌, ℕ, suc, ◌+◌, ◌-◌, ℤ, List, [], ◌∷◌, ◌++◌, refl, sym, ap, subst, ◌∙◌, arith}
-use Rattle.std.specs.Prelude.{None, flat_map, length}
+use Rattle.std.specs.Prelude.{◌≢◌, pos, None, flat_map, length}
 use Rattle.std.specs.List.{AllByRecursion as Each}
 use Rattle.std.proofs.lemmas.Int.{ints}
 use Rattle.lean_fixed.specs.Moments.{first_moment, last_moment}
@@ -13,11 +13,12 @@ use Rattle.clock_run.specs.Known.{World}
 use Rattle.clock_run.specs.States.{Setup}
 use Rattle.clock_run.specs.Reports.{moments, backtest, last_lines, report_bytes}
 use Rattle.clock_run.specs.Summary.{live_orders, summary}
-use Rattle.report_laws.specs.Ledger.{cash_in, equity_in, summary_in}
-use Rattle.report_laws.specs.Closings.{closings_by, closings_before, selected_behind, ledger_of, HasLastPrice}
+use Rattle.report_laws.specs.Ledger.{cash_in, position_in, equity_in, summary_in}
+use Rattle.report_laws.specs.Closings.{closings_by, closings_before, selected_behind, ledger_of, HasLastPrice, IsAtLastBar, HasOne}
 use Rattle.report_laws.proofs.BookLemmas.{book_ledger}
 use Rattle.report_laws.proofs.PaidLemmas.{Goes, AddUp, add-split, moments-go, priced_at}
 use Rattle.report_laws.proofs.PriceLemmas.{Grows, last-prices}
+use Rattle.report_laws.proofs.HeldLemmas.{held-at}
 
 -- a summary is made of the ledger of its book
 summary-of : (book : Book) (equities : List ℤ)
@@ -66,3 +67,21 @@ prices-last setup world valid grows n none =
     let count : suc n ≡ first + n + 1 - first = omega arith in
     subst (λ k. Each (HasLastPrice (world (first + n)).bars (closings_before setup world k)) (selected_behind setup world n).securities) count
     (last-prices setup world valid grows (first - 1) (eve-of setup.plan.window valid.window.days) n none)
+
+pub held-last : (setup : Setup) (world : World) → IsPlan setup.plan → Grows world → (n : ℕ) (symbol : List ℕ)
+    → (moments setup world (n + 1)).stop ≡ None
+    → position_in (ledger_of setup world (first_moment setup.plan.window + n) (moments setup world (n + 1)).lines) symbol ≢ pos 0
+    → HasOne (IsAtLastBar symbol (world (first_moment setup.plan.window + n)).bars (closings_by setup world (first_moment setup.plan.window + n)))
+    (moments setup world (n + 1)).state.securities
+held-last setup world valid grows n symbol =
+    let first = first_moment setup.plan.window in
+    let count : suc n ≡ first + n + 1 - first = omega arith in
+    let next : suc n ≡ n + 1 = omega arith in
+    let at : (moments setup world (suc n)).stop ≡ None
+    → position_in (ledger_of setup world (first + n) (moments setup world (suc n)).lines) symbol ≢ pos 0
+    → HasOne (IsAtLastBar symbol (world (first + n)).bars (closings_by setup world (first + n))) (moments setup world (suc n)).state.securities =
+    λ none held. subst (λ k. HasOne (IsAtLastBar symbol (world (first + n)).bars (closings_before setup world k)) (moments setup world (suc n)).state.securities) count
+    (held-at symbol setup world grows (first - 1) (eve-of setup.plan.window valid.window.days) valid n none held) in
+    subst (λ k. (moments setup world k).stop ≡ None
+    → position_in (ledger_of setup world (first + n) (moments setup world k).lines) symbol ≢ pos 0
+    → HasOne (IsAtLastBar symbol (world (first + n)).bars (closings_by setup world (first + n))) (moments setup world k).state.securities) next at

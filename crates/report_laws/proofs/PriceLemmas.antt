@@ -51,7 +51,7 @@ module _ {X : Type 0} where
   each-both both [] first second = tt
   each-both both (x ∷ xs) first second = (both x first.0 second.0, each-both both xs first.1 second.1)
 
-  each-filter : (P : X → Type 0) (p : X → Bool) (xs : List X) → Each P xs → Each P (filter p xs)
+  pub each-filter : (P : X → Type 0) (p : X → Bool) (xs : List X) → Each P xs → Each P (filter p xs)
   each-filter P p [] all = tt
   each-filter P p (x ∷ xs) all = by (p x) (each-filter P p xs all.1)
     where
@@ -59,7 +59,7 @@ module _ {X : Type 0} where
       by true later = (all.0, later)
       by false later = later
 
-  each-mapped : {Y : Type 0} (P : Y → Type 0) (f : X → Y) (xs : List X) → Each (λ x. P (f x)) xs → Each P (map f xs)
+  pub each-mapped : {Y : Type 0} (P : Y → Type 0) (f : X → Y) (xs : List X) → Each (λ x. P (f x)) xs → Each P (map f xs)
   each-mapped P f [] all = tt
   each-mapped P f (x ∷ xs) all = (all.0, each-mapped P f xs all.1)
 
@@ -148,7 +148,7 @@ module _ (t : ℕ) (known : Known) where
 -- ---- a price, one moment on
 
 -- a feed goes on by the bar that ends at a moment
-abbrev GoesOn : (FeedKey → List Bar) → (FeedKey → List Bar) → ℕ → Type 0
+abbrev pub GoesOn : (FeedKey → List Bar) → (FeedKey → List Bar) → ℕ → Type 0
 GoesOn earlier bars t = (key : FeedKey) → bars key ≡ earlier key ++ option_to_list (find (ends_at t) (bars key))
 
 price-next : (earlier bars : List Bar) (found : Option Bar) (symbol : List ℕ) (quoted new : List Mark) → bars ≡ earlier ++ option_to_list found
@@ -229,52 +229,42 @@ selected-had bars quoted (Some universe) at (row ∷ rows) s fresh had =
     (each-numbered (HasLastPrice bars quoted) (joining universe at) s.feeds news
     (λ n symbol. fresh-price bars quoted (joining universe at n symbol) (fresh symbol universe.resolution universe.fill)))
 
--- ---- what each security has behind the selection, it has behind the moment
+-- ---- what each part of a moment keeps
 
-module _ (P : Subscription → Type 0) where
-  abbrev AllHave : State → Type 0
-  AllHave s = Each P s.securities
-
-  kept-on : (lines : List Line) (s : State) (stop : Option Halt) (next : State → Ran State Line Halt) → AllHave s
-      → ((s : State) → AllHave s → AllHave (next s).state) → AllHave (then_on lines s stop next).state
+module _ (P : State → Type 0) where
+  kept-on : (lines : List Line) (s : State) (stop : Option Halt) (next : State → Ran State Line Halt) → P s
+      → ((s : State) → P s → P (next s).state) → P (then_on lines s stop next).state
   kept-on lines s None next here on = on s here
   kept-on lines s (Some halt) next here on = here
 
-  kept-before : (ran : Ran State Line Halt) (next : State → Ran State Line Halt) → AllHave ran.state
-      → ((s : State) → AllHave s → AllHave (next s).state) → AllHave (before ran next).state
+  pub kept-before : (ran : Ran State Line Halt) (next : State → Ran State Line Halt) → P ran.state
+      → ((s : State) → P s → P (next s).state) → P (before ran next).state
   kept-before ran next = kept-on ran.lines ran.state ran.stop next
 
-  kept-turn : (parts : List Part) → Each (λ part. (s : State) → AllHave s → AllHave (part s).state) parts → (s : State) → AllHave s
-      → AllHave (in_turn parts s).state
+  kept-turn : (parts : List Part) → Each (λ part. (s : State) → P s → P (part s).state) parts → (s : State) → P s → P (in_turn parts s).state
   kept-turn [] keep s here = here
   kept-turn (part ∷ parts) keep s here = kept-before (part s) (in_turn parts) (keep.0 s here) (kept-turn parts keep.1)
 
-  kept-closing : (hours : Entries) (t : ℕ) (s : State) → AllHave s → AllHave (closing hours t s).state
-  kept-closing hours t s here = by (is_closing hours t)
-    where
-      by : (b : Bool) → AllHave (if b then served t (Account (moment t) ∷ []) s else rests s).state
-      by true = here
-      by false = here
-
-  moment-keeps : (setup : Setup) (t : ℕ) (known : Known) (s : State) → AllHave (selection setup.plan.universe t known.coarse s).state
-      → AllHave (moment_of setup t known s).state
+  -- what holds behind the selection holds behind the moment
+  pub kept-moment : (setup : Setup) (t : ℕ) (known : Known) → ((s : State) → P s → P (prices t known s).state)
+      → ((s : State) → P s → P (trading setup t known s).state) → ((s : State) → P s → P (served t (Account (moment t) ∷ []) s).state)
+      → ((s : State) → P s → P (removals t s).state) → (s : State) → P (selection setup.plan.universe t known.coarse s).state
+      → P (moment_of setup t known s).state
   unfolding moment_of
-  moment-keeps setup t known s here =
+  kept-moment setup t known price trade tell remove s here =
       let later : List Part = prices t known ∷ trading setup t known ∷ closing setup.hours t ∷ removals t ∷ refusal setup known ∷ [] in
       kept-before (selection setup.plan.universe t known.coarse s) (in_turn later) here
-      (kept-turn later (
-        (λ s here. here),
-        (
-          (λ s here. here),
-          (
-            kept-closing setup.hours t,
-            (
-              (λ s here. each-filter P (λ security. not (is_done_with (seen_of s.book) security)) s.securities here),
-              ((λ s here. here), tt),
-            ),
-          ),
-        ),
-      ))
+      (kept-turn later (price, (trade, ((λ s here. by (is_closing setup.hours t) s here), (remove, ((λ s here. here), tt))))))
+    where
+      by : (b : Bool) (s : State) → P s → P (if b then served t (Account (moment t) ∷ []) s else rests s).state
+      by true s here = tell s here
+      by false s here = here
+
+moment-keeps : (P : Subscription → Type 0) (setup : Setup) (t : ℕ) (known : Known) (s : State)
+    → Each P (selection setup.plan.universe t known.coarse s).state.securities → Each P (moment_of setup t known s).state.securities
+moment-keeps P setup t known =
+    kept-moment (λ s. Each P s.securities) setup t known (λ s here. here) (λ s here. here) (λ s here. here)
+    (λ s here. each-filter P (λ security. not (is_done_with (seen_of s.book) security)) s.securities here)
 
 -- ---- all moments
 
@@ -316,7 +306,7 @@ module _ (setup : Setup) (world : World) (valid : IsPlan setup.plan) (grows : Gr
       (λ n x. fresh-price (world eve).bars [] (listed first n x)
       (subst (λ u. (world eve).bars (equity_key u x.symbol x.resolution x.fill) ≡ []) (sym first_is) (earlier-fresh eve x.symbol x.resolution x.fill)))
 
-  all-priced : (n : ℕ) → (moments setup world n).stop ≡ None
+  pub all-priced : (n : ℕ) → (moments setup world n).stop ≡ None
       → Each (HasLastPrice (world (eve + n)).bars (closings_before setup world n)) (moments setup world n).state.securities
   unfolding run
   all-priced zero none =

@@ -1,5 +1,5 @@
 -- The prices of the last bars: the closing prices of the bars of the active securities, moment by moment.
-use Rattle.std.specs.Prelude.{◌≡◌, ℕ, zero, suc, ◌+◌, ◌-◌, List, [], ◌++◌, flat_map, Option, Some, None, option_map}
+use Rattle.std.specs.Prelude.{◌≡◌, ◌⊎◌, ℕ, zero, suc, ◌+◌, ◌-◌, List, [], ◌∷◌, ◌++◌, flat_map, Option, Some, None, option_map}
 use Rattle.std.specs.List.{last_or}
 use Rattle.std.specs.Option.{option_to_list}
 use Rattle.lean_fixed.specs.Moments.{first_moment}
@@ -52,3 +52,16 @@ module _ (setup : Setup) (world : World) where
 abbrev pub HasLastPrice : (FeedKey → List Bar) → List Mark → Subscription → Type 0
 HasLastPrice bars quoted security =
     (bar : Bar) → last_or None (bars security.key) ≡ Some bar → last_mark (symbol_of security) quoted ≡ Some bar.closing.0
+
+-- an active security is one of the symbol, its feed has given a bar, and the symbol's last price is the closing price of the last
+-- bar
+pub record IsAtLastBar (symbol : List ℕ) (bars : FeedKey → List Bar) (quoted : List Mark) (security : Subscription) : Type 0 where
+  pub is : symbol_of security ≡ symbol
+  pub bar : Bar
+  pub last : last_or None (bars security.key) ≡ Some bar
+  pub price : last_mark symbol quoted ≡ Some bar.closing.0
+
+-- one of some things is so
+abbrev pub HasOne : {X : Type 0} → (X → Type 0) → List X → Type 0
+HasOne P [] = ⊥
+HasOne P (x ∷ xs) = P x ⊎ HasOne P xs

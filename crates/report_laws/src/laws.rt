@@ -1,5 +1,5 @@
 //! Laws of every report.
-ghost use Rattle.std.specs.Prelude.{◌≡◌, ℕ, ◌+◌, ℤ, None, List, ◌∷◌, ◌++◌, flat_map, length};
+ghost use Rattle.std.specs.Prelude.{◌≡◌, ◌≢◌, ℕ, ◌+◌, ℤ, pos, None, List, ◌∷◌, ◌++◌, flat_map, length};
 ghost use Rattle.std.specs.List.{AllByRecursion as Each};
 ghost use Rattle.lean_fixed.specs.Moments.{first_moment, last_moment};
 ghost use Rattle.lean_io.specs.Told.{Files};
@@ -11,8 +11,8 @@ ghost use Rattle.clock_run.specs.States.{Setup};
 ghost use Rattle.clock_run.specs.Reports.{moments, backtest, report_bytes};
 ghost use Rattle.clock_run.specs.Summary.{live_orders};
 ghost use Rattle.clock_run.specs.Worlds.{world_of};
-ghost use Rattle.report_laws.specs.Ledger.{cash_in, equity_in, summary_in};
-ghost use Rattle.report_laws.specs.Closings.{ledger_of, selected_behind, closings_by, HasLastPrice};
+ghost use Rattle.report_laws.specs.Ledger.{cash_in, position_in, equity_in, summary_in};
+ghost use Rattle.report_laws.specs.Closings.{ledger_of, selected_behind, closings_by, HasLastPrice, IsAtLastBar, HasOne};
 
 use clock_run::laws::worlds_go_on;
 
@@ -31,15 +31,26 @@ pub fn fills_account()
         (backtest setup world).state.equities }
 {}
 
-/// The prices are those of the last bars: at each moment of a backtest over a folder's files the last closing price of an active
-/// security is that of the last bar that its feed has given by then.
+/// The prices are those of the last bars. At each moment of a backtest over a folder's files the last closing price of an active
+/// security is that of the last bar that its feed has given by then; and where something is held of a symbol behind a moment, a
+/// security of it is active, its feed has given a bar, and that of the last one is the symbol's price.
 pub fn last_bars()
-    ensures { (setup : Setup) (files : Files) (n : ℕ) → LieInDays setup.hours → IsPlan setup.plan
+    ensures active { (setup : Setup) (files : Files) (n : ℕ) → LieInDays setup.hours → IsPlan setup.plan
         → (moments setup (world_of files setup.hours setup.plan.window) n).stop ≡ None
         → Each (HasLastPrice
         (world_of files setup.hours setup.plan.window (first_moment setup.plan.window + n)).bars
         (closings_by setup (world_of files setup.hours setup.plan.window) (first_moment setup.plan.window + n)))
         (selected_behind setup (world_of files setup.hours setup.plan.window) n).securities }
+    ensures held { (setup : Setup) (files : Files) (n : ℕ) (symbol : List ℕ) → LieInDays setup.hours
+        → IsPlan setup.plan
+        → (moments setup (world_of files setup.hours setup.plan.window) (n + 1)).stop ≡ None
+        → position_in (ledger_of setup (world_of files setup.hours setup.plan.window)
+        (first_moment setup.plan.window + n)
+        (moments setup (world_of files setup.hours setup.plan.window) (n + 1)).lines) symbol ≢ pos 0
+        → HasOne (IsAtLastBar symbol
+        (world_of files setup.hours setup.plan.window (first_moment setup.plan.window + n)).bars
+        (closings_by setup (world_of files setup.hours setup.plan.window) (first_moment setup.plan.window + n)))
+        (moments setup (world_of files setup.hours setup.plan.window) (n + 1)).state.securities }
 {
     worlds_go_on();
 }
