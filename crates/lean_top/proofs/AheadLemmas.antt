@@ -1,8 +1,7 @@
 -- Folders that are alike up to a moment print the same up to it, and what they print is a front of the report.
-use Rattle.std.proofs.Common.{◌≡◌, ℕ, ◌+◌, ◌-◌, ◌<◌, ◌≤◌, min, Bool, true, false, cond, List, [], Some, None, refl, sym, ap, subst, ◌∙◌, arith}
+use Rattle.std.proofs.Common.{◌≡◌, ℕ, ◌+◌, ◌-◌, ◌≤◌, Bool, true, false, cond, List, [], Some, None, refl, sym, ap, subst, ◌∙◌, arith}
 use Rattle.std.specs.Prelude.{Option, Result, Ok, Err, flat_map, codes, length, nat_lt}
 use Rattle.lean_fixed.specs.Moments.{first_moment, last_moment}
-use Rattle.lean_fixed.specs.declared.time.Window.{Window}
 use Rattle.lean_io.specs.Told.{Files}
 use Rattle.exchange_hours.specs.declared.fault.HoursFault.{HoursFault}
 use Rattle.exchange_hours.specs.declared.entries.Segment.{Segment}
@@ -29,7 +28,7 @@ use Rattle.lean_top.specs.HoursRead.{most_hours, hours_path, hours_file, or_word
 use Rattle.lean_top.specs.Backtests.{RunsBacktest}
 use Rattle.lean_top.specs.Command.{Asked, Backtest}
 use Rattle.lean_top.specs.Report.{setup_of, world_for, backtest_over, backtest_report_of, backtest_with, backtest_by, report_of, report}
-use Rattle.lean_top.specs.Until.{count_until, lines_with, lines_by, printed_until, FeedsAgree, FeedsAgreeBy, AreAlikeUntil}
+use Rattle.lean_top.specs.Until.{count_until, lines_with, lines_by, printed_until, FeedsAgreeBy, AreAlikeUntil}
 use Rattle.lean_top.proofs.BacktestLemmas.{moments_front}
 
 -- ---- sessions lie in their days by hours that were read

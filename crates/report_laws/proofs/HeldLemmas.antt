@@ -1,10 +1,9 @@
 -- Something is held of a symbol, or an order of it is live, only while a security of it is active whose feed has given a bar.
-use Rattle.std.proofs.Common.{◌≡◌, ◌≢◌, ℕ, zero, suc, ◌+◌, ◌-◌, ℤ, pos, ◌+ℤ◌, List, [], ◌∷◌, ◌++◌, Bool, true, false, cond, refl, sym, ap, subst, ◌∙◌, arith, inl, inr, true≢false, if◌then◌else◌}
-use Rattle.std.specs.Prelude.{Option, Some, None, ◌⊎◌, IfSome, ◌==◌, ◌&&◌, ◌||◌, not, map, filter, flat_map, find, take, length, is_some, option_map, option_and_then}
+use Rattle.std.proofs.Common.{◌≡◌, ◌≢◌, ℕ, zero, suc, ◌+◌, ◌-◌, ℤ, pos, List, [], ◌∷◌, ◌++◌, Bool, true, false, cond, refl, sym, ap, subst, ◌∙◌, arith, inl, inr, true≢false, if◌then◌else◌}
+use Rattle.std.specs.Prelude.{Option, Some, None, ◌⊎◌, IfSome, ◌==◌, ◌||◌, not, map, filter, flat_map, find, take, length, is_some, option_map, option_and_then}
 use Rattle.std.specs.List.{AllByRecursion as Each, filter_map, cons_option, last_or}
-use Rattle.std.specs.Option.{option_to_list, option_map_or}
+use Rattle.std.specs.Option.{option_to_list}
 use Rattle.std.specs.Ordering.{int_eq}
-use Rattle.std.proofs.lemmas.Int.{ints}
 use Rattle.std.proofs.lemmas.Bool.Decides.{Decides-int_eq}
 use Rattle.std.proofs.lemmas.Bool.{and_parts}
 use Rattle.std.proofs.lemmas.List.{append-nil}
@@ -33,7 +32,7 @@ use Rattle.lean_orders.specs.declared.desk.Command.TheVariants.{Mark, Match, Sub
 use Rattle.fill_models.specs.FillPrice.{fill_price}
 use Rattle.portfolio.specs.Symbols.{same_symbol, sum_of}
 use Rattle.portfolio.specs.Sums as sums
-use Rattle.portfolio.proofs.SymbolLemmas.{same_is, same_self, sum_of-append}
+use Rattle.portfolio.proofs.SymbolLemmas.{same_is}
 use Rattle.rule_strategy.specs.declared.asking.RuleView.{RuleView}
 use Rattle.rule_strategy.specs.declared.rule.Action.{Action}
 use Rattle.rule_strategy.specs.declared.rule.Action.TheVariants as act
@@ -50,7 +49,7 @@ use Rattle.clock_steps.proofs.RunLemmas.{before-same, run-cut, run-one}
 use Rattle.clock_feeds.specs.Bars.{ends_at}
 use Rattle.clock_book.specs.Books.{Book, is_live, order_of, price_of, position_of, bar_to_try, table_bar, opening_of}
 use Rattle.clock_book.specs.Submits.{has_price, submit_cause, order_for, fill_at, market_fill}
-use Rattle.clock_book.specs.Matches.{in_state, bar_of, set_off, fill_on, matched, after_trigger, after_match}
+use Rattle.clock_book.specs.Matches.{in_state, set_off, fill_on, matched, after_trigger, after_match}
 use Rattle.clock_book.specs.Handled.{Handled, handled, after, accepted_submit, priced_submit, judged_submit, market_submit, resting_submit, update_found, cancel_found, refused, done, said, with_orders, replaced, at_price}
 use Rattle.clock_book.specs.Seen.{Seen, seen_of, resting_of, live_of}
 use Rattle.clock_book.proofs.SeenLemmas.{more_differs}
@@ -59,15 +58,15 @@ use Rattle.clock_run.specs.Known.{Known, World}
 use Rattle.clock_run.specs.States.{Setup, Subscription, State, symbol_of, actives, numbered, joining, opening}
 use Rattle.clock_run.specs.Histories.{History, history_of, histories, bar_now, fresh_bar}
 use Rattle.clock_run.specs.Requests.{position_seen, orders_seen, is_for, rule_view, fresh_requests, security_requests, requests}
-use Rattle.clock_run.specs.Moments.{marked_as, selection, marks, mark_of, price_bar, prices, most_requests, trading, is_done_with, removals, moment_of}
+use Rattle.clock_run.specs.Moments.{marked_as, selection, marks, price_bar, most_requests, is_done_with, removals, moment_of}
 use Rattle.clock_run.specs.Reports.{step_of, moments}
 use Rattle.clock_run.proofs.EachLemmas.{each-append, each-take, each-if, each-map, each-flat_map}
 use Rattle.clock_run.proofs.BarLemmas.{last-push}
 use Rattle.clock_run.proofs.IdleLemmas.{fresh-quiet}
 use Rattle.report_laws.specs.Ledger.{position_in}
-use Rattle.report_laws.specs.Closings.{closings_by, closings_before, ledger_of, HasLastPrice, IsAtLastBar, HasOne}
+use Rattle.report_laws.specs.Closings.{closings_before, ledger_of, HasLastPrice, IsAtLastBar, HasOne}
 use Rattle.report_laws.proofs.PaidLemmas.{moments-go}
-use Rattle.report_laws.proofs.PriceLemmas.{GoesOn, Grows, each-mapped, kept-before, kept-moment, all-priced}
+use Rattle.report_laws.proofs.PriceLemmas.{GoesOn, Grows, kept-before, kept-moment, all-priced}
 
 -- ---- one of some things
 

@@ -10,7 +10,6 @@ use Rattle.lean_fixed.specs.declared.resolution.Resolution.{Resolution}
 use Rattle.lean_items.specs.declared.bar.Bar.{Bar}
 use Rattle.lean_items.specs.declared.coarse_row.CoarseRow.{CoarseRow}
 use Rattle.lean_items.specs.declared.feed_key.FeedKey.{FeedKey}
-use Rattle.exchange_hours.specs.Entries.{Entries}
 use Rattle.exchange_hours.specs.Grid.{is_closing}
 use Rattle.exchange_hours.specs.Sessions.{moment}
 use Rattle.lean_orders.specs.declared.desk.Command.TheVariants.{Account}

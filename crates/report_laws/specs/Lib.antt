@@ -1,3 +1,4 @@
 pub mod Fills
 pub mod Ledger
 pub mod Closings
+pub mod Worked
