@@ -5,6 +5,7 @@ pub mod WindowLemmas
 pub mod Running
 pub mod TapeLemmas
 pub mod BacktestLemmas
+pub mod AheadLemmas
 pub mod RunLemmas
 pub mod KeptLemmas
 pub mod DemoLemmas

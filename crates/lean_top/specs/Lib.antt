@@ -8,6 +8,8 @@ pub mod AlgorithmGiven
 pub mod CloseTail
 pub mod Kept
 pub mod Report
+pub mod Until
+pub mod Backtests
 pub mod DemoEnd
 pub mod Ending
 pub mod Outcome

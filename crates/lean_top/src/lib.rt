@@ -14,6 +14,7 @@ mod demo_tests;
 mod fault_text;
 mod files;
 mod hours;
+pub mod laws;
 mod refusal;
 mod report;
 mod session;

@@ -1,7 +1,8 @@
-//! The worked report of five days, where a read of one of its files fails, or a write.
+//! The worked report of five days, where a read of one of its files fails, or a write, and where its last prices are others.
 
 use crate::folders::{add, begun, path_of};
-use crate::running::{add_other, with_failing_call, with_failing_write};
+use crate::running::{add_other, offline, with_failing_call, with_failing_write};
+use lean_io::{MemFolder, MemSink};
 use std::alloc::Global;
 use std::collections::BTreeMap;
 use std::fmt::Write;
@@ -69,8 +70,12 @@ drawdown 203.0000
 hold SPY 100 169.0000";
 
 fn files_of_week(alloc: Global) -> Result<BTreeMap<String, Vec<u8>>, Fail> {
+    files_of(alloc, DAYS)
+}
+
+fn files_of(alloc: Global, days: &str) -> Result<BTreeMap<String, Vec<u8>>, Fail> {
     let mut files = begun(alloc, PLAN)?;
-    for day in DAYS.lines() {
+    for day in days.lines() {
         add_day(alloc, &mut files, day)?;
     }
     Ok(files)
@@ -133,4 +138,52 @@ fn failing_writes(alloc: Global) -> Result<String, Fail> {
 fn failing_writes_of_a_week(rt: HostRuntime) -> Result<(), Fail> {
     let told = failing_writes(rt.alloc())?;
     compare(rt.alloc(), "writes", &told, "5 front, 0 whole")
+}
+
+// The same days, but for the prices of the last three.
+const OTHER_DAYS: &str = "\
+spy/20131007 1670000
+spy/20131008 1680000
+spy/20131009 1700000
+spy/20131010 1700000
+spy/20131011 1700000
+";
+
+// What is then printed of them, and the summary.
+const OTHER_END: &str = "\
+20131009 16:00 close cash 83199.0000 equity 100199.0000
+20131010 16:00 close cash 83199.0000 equity 100199.0000
+20131011 16:00 close cash 83199.0000 equity 100199.0000
+end 1 orders 1 fills 0 open
+fees 1.0000
+realised 0.0000
+cash 83199.0000
+equity 100199.0000
+drawdown 1.0000
+hold SPY 100 170.0000
+";
+
+// The lines of the first moments of a report.
+fn first_lines(alloc: Global, report: &str, moments: usize) -> Result<String, Fail> {
+    let mut front = String::new(alloc);
+    for lines in report.split("\n\n").take(moments) {
+        front.push_str(lines)?;
+        front.push('\n')?;
+    }
+    Ok(front)
+}
+
+// The lines of the three moments of the first two days stay as they are.
+#[test]
+fn later_prices_of_a_week(rt: HostRuntime) -> Result<(), Fail> {
+    let alloc = rt.alloc();
+    let files = files_of(alloc, OTHER_DAYS)?;
+    let mut folder = MemFolder::new(alloc, files, Vec::new(alloc))?;
+    let mut out = MemSink::new(alloc, 65_536, 65_536, Vec::new(alloc))?;
+    let status = offline(alloc, "backtest a.toml", &mut folder, &mut out)?;
+    assert_eq!(rt; status.code(), 0);
+    let told = str::from_utf8(out.bytes())?;
+    let front = first_lines(alloc, REPORT, 3)?;
+    let end = told.strip_prefix(front.as_str()).ok_or("other lines")?;
+    compare(alloc, "behind them", end, OTHER_END)
 }

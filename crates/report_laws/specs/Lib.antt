@@ -1,0 +1,4 @@
+pub mod Fills
+pub mod Ledger
+pub mod Closings
+pub mod Worked
