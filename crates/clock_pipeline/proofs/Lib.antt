@@ -1,0 +1,6 @@
+pub mod LaneLemmas
+pub mod ReplyLemmas
+pub mod ReachLemmas
+pub mod FeedLemmas
+pub mod KeepLemmas
+pub mod WorldLemmas
