@@ -107,6 +107,9 @@ module _ (next : Part) (keeps : Keeps next) where
 pub keys-before : (r : Ran Core Line Pause) (next : Part) → Keeps next → IsFrontOf r.state.keys (before r next).state.keys
 keys-before r next keeps = keys-on next keeps r.lines r.state r.stop
 
+pub asked-before : (r : Ran Core Line Pause) (next : Part) → Keeps next → IsFrontOf r.state.asked (before r next).state.asked
+asked-before r next keeps = asked-on next keeps r.lines r.state r.stop
+
 pub before-keeps : (first next : Part) → Keeps first → Keeps next → Keeps (λ c. before (first c) next)
 before-keeps first next one two = record {
   asked = λ c. front-of (one.asked c) (asked-on next two (first c).lines (first c).state (first c).stop);
@@ -272,7 +275,7 @@ selection-keeps (Some universe) t (row ∷ rows) = chosen-keep universe t (selec
 
 -- ---- the other parts
 
-counted-keep : (n : ℕ) (stop : Option Pause) → Keeps (counted n stop)
+pub counted-keep : (n : ℕ) (stop : Option Pause) → Keeps (counted n stop)
 counted-keep n stop = record {
   asked = λ c. front-whole c.asked;
   keys = λ c. front-whole c.keys;

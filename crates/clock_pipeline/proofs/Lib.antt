@@ -4,3 +4,4 @@ pub mod ReachLemmas
 pub mod FeedLemmas
 pub mod KeepLemmas
 pub mod WorldLemmas
+pub mod BacktestLemmas
