@@ -29,13 +29,13 @@ use Rattle.clock_run.specs.Moments as clock
 use Rattle.clock_run.specs.Moments.{stop_past, marked_as, marks, most_requests, told, equity_told}
 use Rattle.clock_run.proofs.NumberLemmas.{length-numbered}
 use Rattle.clock_pipeline.specs.Replies.{dones, replies_to, replies_behind}
-use Rattle.clock_pipeline.specs.Cores.{Core, View, Pause, halts, Part, histories_in, first_book, first_keys, opening as opening_core}
-use Rattle.clock_pipeline.specs.Moments.{in_turn, with_replies, awaiting, answered, joined_key, added_to, chosen, selection, prices, counted, traded, trading, closing, removals, refusal, parts_of, moment_of}
+use Rattle.clock_pipeline.specs.Cores.{Core, Pause, halts, Part, histories_in, first_book, first_keys}
+use Rattle.clock_pipeline.specs.Moments.{in_turn, with_replies, answered, joined_key, selection, prices, counted, trading, closing, removals, refusal, parts_of, moment_of}
 use Rattle.clock_pipeline.specs.Pipelines.{Pipeline, first, world}
 use Rattle.clock_pipeline.specs.Steps.{is_heard}
 use Rattle.clock_pipeline.proofs.LaneLemmas.{front-of}
 use Rattle.clock_pipeline.proofs.ReplyLemmas.{replies-split, replies_to-more, replies_to-book, after-append, after-none, replies-append, replies-none}
-use Rattle.clock_pipeline.proofs.KeepLemmas.{Keeps, le-of, heard-before, asked-before, answered_if, answered-keeps, rests-keep, before-keeps, selection-keeps, trading-keeps, closing-keeps, removals-keep, refusal-keeps, counted-keep, chosen-keeps, parts-keep, run-keeps}
+use Rattle.clock_pipeline.proofs.KeepLemmas.{Keeps, le-of, heard-before, asked-before, answered_if, rests-keep, before-keeps, trading-keeps, closing-keeps, removals-keep, refusal-keeps, counted-keep, chosen-keeps, parts-keep, run-keeps}
 use Rattle.clock_pipeline.proofs.WorldLemmas.{view_known, step_known, core_known, known-keeps}
 
 -- a run of the backtest from a state
@@ -309,9 +309,12 @@ module _ (p : Pipeline) (all : List Command) (told_all : List Reply) (ok : IsFro
   opening-stands : Facts p.setup all told_all ok (first_keys p.setup) [] told_all (opening_state p.setup)
   opening-stands = record {
     feeds =
-        omega (arith, length-append (coarse_keys p.setup.plan) (map (λ security. security.key) (opening_state p.setup).securities),
-        length-map (opening_state p.setup).securities (λ security. security.key),
-        length-numbered (listed (first_moment p.setup.plan.window)) (length (coarse_keys p.setup.plan)) p.setup.plan.securities);
+        omega (
+          arith,
+          length-append (coarse_keys p.setup.plan) (map (λ security. security.key) (opening_state p.setup).securities),
+          length-map (opening_state p.setup).securities (λ security. security.key),
+          length-numbered (listed (first_moment p.setup.plan.window)) (length (coarse_keys p.setup.plan)) p.setup.plan.securities,
+        );
     numbered = tt;
     book = sym (after-none (first_book p.setup));
     heard_is = ap (λ rs. rs ++ told_all) (sym (replies-none (first_book p.setup)));

@@ -1,5 +1,5 @@
 -- What was taken of a feed tells of a moment that it reaches what the files tell.
-use Rattle.std.proofs.Common.{◌≡◌, ℕ, ◌+◌, ◌≤◌, ℤ, List, refl, ap, sym, ◌∙◌, arith}
+use Rattle.std.proofs.Common.{◌≡◌, ℕ, List, ap, sym, ◌∙◌}
 use Rattle.std.specs.Option.{option_to_list}
 use Rattle.lean_fixed.specs.declared.resolution.Resolution.{Resolution}
 use Rattle.lean_fixed.specs.declared.time.Window.{Window}
@@ -16,7 +16,7 @@ use Rattle.clock_feeds.specs.Bars.{bar_at}
 use Rattle.clock_feeds.specs.Feeds.{bars_of, coarse_of, filling_of, feed, feed_of}
 use Rattle.clock_feeds.specs.Known.{bars_by, feed_bars, feed_bars_of}
 use Rattle.clock_feeds.specs.Lists.{bars_ending, rows_ending}
-use Rattle.clock_feeds.specs.Slices.{source, coarse_at}
+use Rattle.clock_feeds.specs.Slices.{coarse_at}
 use Rattle.clock_feeds.proofs.FeedLemmas.{feed_rises, feed_whole, coarse_told}
 use Rattle.clock_feeds.proofs.KeyLemmas.{of_kind, bars_told_of}
 use Rattle.clock_pipeline.specs.Reached.{bars_taken, reaches}

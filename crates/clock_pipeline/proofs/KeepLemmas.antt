@@ -18,15 +18,15 @@ use Rattle.universe_state.specs.Choice.{additions, room}
 use Rattle.universe_rules.specs.Selected.{selected}
 use Rattle.clock_steps.specs.Runs.{Ran, rests, behind, then_on, before, run, IsFrontOf}
 use Rattle.rule_strategy.specs.declared.universe.UniversePlan.{UniversePlan}
-use Rattle.clock_run.specs.Lines.{Line, Halt, too_many_requests}
+use Rattle.clock_run.specs.Lines.{Line, too_many_requests}
 use Rattle.clock_run.specs.Known.{Known}
 use Rattle.clock_run.specs.States.{Setup, Subscription, actives_of, numbered, joining}
 use Rattle.clock_run.specs.Histories.{History}
 use Rattle.clock_run.specs.Requests.{requests}
-use Rattle.clock_run.specs.Moments.{stop_past, marked_as, marks, most_requests, is_done_with}
+use Rattle.clock_run.specs.Moments.{stop_past, marked_as, marks, most_requests}
 use Rattle.clock_pipeline.specs.Replies.{dones, replies_to, replies_behind}
 use Rattle.clock_pipeline.specs.Cores.{Core, View, Pause, waits, halts, Part, histories_in, number_of}
-use Rattle.clock_pipeline.specs.Moments.{in_turn, with_replies, awaiting, answered, joined_key, added_to, chosen, selection, prices, counted, traded, trading, closing, removals, refusal, parts_of, moment_of}
+use Rattle.clock_pipeline.specs.Moments.{in_turn, with_replies, awaiting, answered, joined_key, chosen, selection, counted, trading, closing, removals, refusal, parts_of, moment_of}
 use Rattle.clock_pipeline.specs.Steps.{is_heard}
 use Rattle.clock_pipeline.proofs.LaneLemmas.{front-whole, front-more, front-of}
 use Rattle.clock_pipeline.proofs.ReplyLemmas.{dones-append, dones-behind, replies_to-more, replies_behind-more}
@@ -128,6 +128,7 @@ before-keeps first next one two = record {
     goes c more heard =
         subst (λ r. IsFrontOf (before (first c) next).state.asked (before r next).state.asked) (sym (one.later c more heard))
         (front-on next two (first c).lines (first c).state (first c).stop more)
+
     by : (c : Core) (more : List Reply) (z : Option Pause) → (first c).stop ≡ z
         → IsFrontOf (before (first c) next).state.asked (before (first (with_more more c)) next).state.asked
     by c more None is = goes c more (ap is_heard is)
@@ -244,10 +245,11 @@ joined-keyed : (universe : UniversePlan) (t : ℕ) (keys : List FeedKey) (news :
     → Each (IsKeyed (keys ++ map (joined_key universe t) news)) (numbered (joining universe t) n news)
 joined-keyed universe t keys [] n is = tt
 joined-keyed universe t keys (symbol ∷ news) n is =
-    let key = joined_key universe t symbol in
-    (record { key = ap (λ k. key_at k (keys ++ key ∷ map (joined_key universe t) news)) is ∙ key_at-end keys (map (joined_key universe t) news) key; kind = tt },
-    subst (λ ks. Each (IsKeyed ks) (numbered (joining universe t) (n + 1) news)) (append_assoc keys (key ∷ []) (map (joined_key universe t) news))
-    (joined-keyed universe t (keys ++ key ∷ []) news (n + 1) (omega (arith, is, length-append keys (key ∷ [])))))
+    let key = joined_key universe t symbol in (
+      record { key = ap (λ k. key_at k (keys ++ key ∷ map (joined_key universe t) news)) is ∙ key_at-end keys (map (joined_key universe t) news) key; kind = tt },
+      subst (λ ks. Each (IsKeyed ks) (numbered (joining universe t) (n + 1) news)) (append_assoc keys (key ∷ []) (map (joined_key universe t) news))
+          (joined-keyed universe t (keys ++ key ∷ []) news (n + 1) (omega (arith, is, length-append keys (key ∷ [])))),
+    )
 
 each-both : (P : Subscription → Type 0) (xs ys : List Subscription) → Each P xs → Each P ys → Each P (xs ++ ys)
 each-both P [] ys all more = more
@@ -299,10 +301,12 @@ trading-keeps setup t histories =
   where
     part : List Command × Option Pause → Part
     part a c = before (answered t a.0 c) (counted (length a.0) a.1)
+
     by : Core → List Command × Option Pause
-    by c =
-        (take (most_requests - c.requests) (requests setup.plan.rules c.seen t histories),
-        option_map halts (stop_past (most_requests - c.requests) too_many_requests (requests setup.plan.rules c.seen t histories)))
+    by c = (
+      take (most_requests - c.requests) (requests setup.plan.rules c.seen t histories),
+      option_map halts (stop_past (most_requests - c.requests) too_many_requests (requests setup.plan.rules c.seen t histories)),
+    )
 
 filtered-keyed : (keys : List FeedKey) (test : Subscription → Bool) (securities : List Subscription) → Each (IsKeyed keys) securities → Each (IsKeyed keys) (filter test securities)
 filtered-keyed keys test [] are = tt

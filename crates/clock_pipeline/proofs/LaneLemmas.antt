@@ -1,7 +1,7 @@
 -- Fronts of lists, and what a push and a pop leave of a lane.
-use Rattle.std.proofs.Common.{◌≡◌, ℕ, zero, suc, ◌+◌, ◌<◌, ◌≤◌, Bool, true, false, List, [], ◌∷◌, ◌++◌, length, refl, ap, sym, subst, ◌∙◌, arith, append-nil, append_assoc, inl, inr, length-append}
-use Rattle.std.specs.Prelude.{◌⊎◌, take, drop, nat_lt}
-use Rattle.std.proofs.lemmas.List.{drop_at, length-take, length-drop}
+use Rattle.std.proofs.Common.{◌≡◌, ℕ, ◌<◌, ◌≤◌, true, List, [], ◌∷◌, ◌++◌, length, refl, ap, sym, ◌∙◌, arith, append-nil, append_assoc, inl, inr, length-append}
+use Rattle.std.specs.Prelude.{◌⊎◌, take, drop}
+use Rattle.std.proofs.lemmas.List.{drop_at}
 use Rattle.std.proofs.lemmas.Bool.Decides.{nat_tests}
 use Rattle.clock_steps.specs.Runs.{IsFrontOf}
 use Rattle.clock_pipeline.specs.Lanes.{Lane, next_of, held, has_room, with_sent, with_taken, IsLane}

@@ -5,3 +5,4 @@ pub mod FeedLemmas
 pub mod KeepLemmas
 pub mod WorldLemmas
 pub mod BacktestLemmas
+pub mod StepLemmas

@@ -1,18 +1,17 @@
 -- A taken list that reaches a moment has all that the list of its feed has up to then.
-use Rattle.std.proofs.Common.{◌≡◌, ℕ, zero, suc, ◌+◌, ◌<◌, ◌≤◌, ℤ, pos, ◌<ℤ◌, ◌≤ℤ◌, Bool, true, false, List, [], ◌∷◌, ◌++◌, refl, ap, sym, subst, ◌∙◌, arith, inl, inr, append-nil, append_assoc}
-use Rattle.std.specs.Prelude.{◌⊎◌, ◌&&◌, ◌||◌, int_lt, int_le, nat_lt, ◌==◌, unsigned_abs, if◌then◌else◌, Option, Some, None}
-use Rattle.std.specs.List.{list_any, filter_map, cons_option, All, AllByRecursion as Each}
+use Rattle.std.proofs.Common.{◌≡◌, ℕ, ◌≤◌, ℤ, pos, ◌<ℤ◌, ◌≤ℤ◌, Bool, true, false, List, [], ◌∷◌, ◌++◌, refl, ap, sym, subst, ◌∙◌, arith, inl, inr, append-nil, append_assoc}
+use Rattle.std.specs.Prelude.{◌⊎◌, ◌&&◌, ◌||◌, int_lt, int_le, ◌==◌, unsigned_abs, if◌then◌else◌, Option, Some, None}
+use Rattle.std.specs.List.{list_any, filter_map, cons_option, AllByRecursion as Each}
 use Rattle.std.proofs.lemmas.Bool.Decides.{nat_tests}
 use Rattle.std.proofs.lemmas.Int.{ints}
 use Rattle.std.proofs.lemmas.List.Elements.{recursion_from_All, All-from_recursion}
-use Rattle.lean_items.specs.declared.bad.Bad.{Bad}
 use Rattle.lean_items.specs.declared.bar.Bar.{Bar}
 use Rattle.lean_items.specs.declared.coarse_row.CoarseRow.{CoarseRow}
 use Rattle.lean_items.specs.declared.feed_key.FeedKind.{FeedKind}
 use Rattle.lean_items.specs.declared.feed_key.FeedKind.TheVariants.{Coarse as CoarseFiles, Equity}
 use Rattle.lean_items.specs.declared.item.Item.{Item}
 use Rattle.lean_items.specs.declared.item.Item.TheVariants.{Bar as BarItem, Coarse as CoarseItem, Bad as BadItem, Faulted, End}
-use Rattle.lean_items.specs.Fits.{fits, Rises, is_bar_in_range, is_row_in_range}
+use Rattle.lean_items.specs.Fits.{Rises, is_bar_in_range, is_row_in_range}
 use Rattle.lean_items.specs.Given.{IsRow, is_last}
 use Rattle.lean_items.specs.Taken.{Follows}
 use Rattle.clock_steps.specs.Runs.{IsFrontOf}
@@ -21,7 +20,7 @@ use Rattle.clock_feeds.specs.Feeds.{last_item}
 use Rattle.clock_feeds.specs.Lists.{IsOfKind, IsWhole, bar_ending, bars_ending, row_ending, rows_ending}
 use Rattle.clock_pipeline.specs.Lanes.{next_of}
 use Rattle.clock_pipeline.specs.Reached.{is_past, fails_past, reaches}
-use Rattle.clock_pipeline.proofs.LaneLemmas.{front-next, front-last, front-more, front-of}
+use Rattle.clock_pipeline.proofs.LaneLemmas.{front-next, front-last}
 
 -- ---- lists that follow a list
 

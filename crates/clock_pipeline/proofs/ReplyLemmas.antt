@@ -1,5 +1,5 @@
 -- How replies are told apart, and that a book ends what it replies to each command with one `Done`.
-use Rattle.std.proofs.Common.{◌≡◌, ℕ, zero, suc, ◌+◌, ◌≤◌, ℤ, Bool, true, false, if◌then◌else◌, List, [], ◌∷◌, ◌++◌, length, Option, Some, None, refl, ap, sym, subst, ◌∙◌, arith, not, ◌||◌, append-nil, append_assoc, length-append}
+use Rattle.std.proofs.Common.{◌≡◌, ℕ, zero, suc, ◌+◌, ◌≤◌, ℤ, Bool, true, false, if◌then◌else◌, List, [], ◌∷◌, ◌++◌, length, Option, Some, None, refl, ap, sym, ◌∙◌, arith, not, ◌||◌, append_assoc}
 use Rattle.std.specs.List.{filter_map, cons_option}
 use Rattle.std.specs.Option.{option_map}
 use Rattle.lean_fixed.specs.Ranges.{is_price}
@@ -15,7 +15,6 @@ use Rattle.lean_orders.specs.declared.order.Kind.TheVariants.{Market, Limit, Sto
 use Rattle.lean_orders.specs.declared.order.Request.{Request}
 use Rattle.lean_orders.specs.declared.order.Order.{Order}
 use Rattle.lean_orders.specs.declared.event.Cause.{Cause}
-use Rattle.lean_orders.specs.declared.event.Cause.TheVariants.{PriceForm, Closed}
 use Rattle.lean_orders.specs.declared.event.Fill.{Fill}
 use Rattle.clock_steps.specs.Runs.{IsFrontOf}
 use Rattle.clock_book.specs.Books.{Book, price_of, order_of, is_live}

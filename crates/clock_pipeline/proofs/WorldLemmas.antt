@@ -3,7 +3,7 @@ use Rattle.std.proofs.Common.{◌≡◌, ℕ, zero, suc, ◌+◌, ◌-◌, ◌<�
 use Rattle.std.specs.Prelude.{Option, Some, None, take, ◌&&◌, option_map}
 use Rattle.std.specs.List.{AllByRecursion as Each, list_all, range_with_len}
 use Rattle.std.specs.Option.{option_map_or}
-use Rattle.std.proofs.lemmas.List.{take-map, take_at, drop_at}
+use Rattle.std.proofs.lemmas.List.{take-map, take_at}
 use Rattle.std.proofs.lemmas.List.Folds.{list_all-append, list_all-map}
 use Rattle.lean_fixed.specs.Moments.{first_moment}
 use Rattle.lean_fixed.specs.Ranges.{IsWindow}
@@ -33,10 +33,10 @@ use Rattle.clock_run.specs.Moments.{marked_as}
 use Rattle.clock_run.proofs.EachLemmas.{flat_map-all_none}
 use Rattle.clock_run.proofs.WorldLemmas.{begins-fresh}
 use Rattle.clock_pipeline.specs.Cores.{Core, View, Pause, Part, history_in, histories_in, number_of, first_keys, opening as opening_core}
-use Rattle.clock_pipeline.specs.Moments.{in_turn, chosen, selection, parts_of, moment_of}
-use Rattle.clock_pipeline.specs.Reached.{bars_taken, reaches}
+use Rattle.clock_pipeline.specs.Moments.{in_turn, selection, parts_of, moment_of}
+use Rattle.clock_pipeline.specs.Reached.{bars_taken}
 use Rattle.clock_pipeline.specs.Pipelines.{Pipeline, Feed, key_of, first, world, list_of, feed_at, items_of, view_of, feeds_then, step_over, core_over}
-use Rattle.clock_pipeline.specs.Steps.{coarse_numbers, active_numbers, feed_reaches, number_reaches, all_reach}
+use Rattle.clock_pipeline.specs.Steps.{coarse_numbers, feed_reaches, number_reaches, all_reach}
 use Rattle.clock_pipeline.proofs.LaneLemmas.{front-of}
 use Rattle.clock_pipeline.proofs.FeedLemmas.{taken-bars, taken-rows}
 use Rattle.clock_pipeline.proofs.KeepLemmas.{key_at, key_at-end, IsEquity, IsKeyed, AreKeyed, Keeps, keys-before, moment-keeps, run-keeps, chosen-keeps}
@@ -149,6 +149,7 @@ module _ (p : Pipeline) (every : LieInDays p.setup.hours) (is_window : IsWindow 
     where
       same : feed.key ≡ key
       same = some-same is
+
       by : (kind : FeedKind) → feed.key.kind ≡ kind → IsEquity kind → bars_taken feed.lane.taken t ≡ feed_bars p.files p.setup.hours p.setup.plan.window feed.key t
       by Coarse kind equity = absurd equity
       by (Equity symbol resolution) kind equity =
@@ -174,11 +175,12 @@ module _ (p : Pipeline) (every : LieInDays p.setup.hours) (is_window : IsWindow 
       → Each (λ s. (view_of (feeds_then feeds c) t).bars s ≡ (view_known (world p t)).bars s) securities
   reached-each feeds c [] keys follow keyed reached = tt
   reached-each feeds c (s ∷ securities) keys follow keyed reached =
-      let now = both (number_reaches (feeds_then feeds c) t (number_of s)) (list_all (λ s. number_reaches (feeds_then feeds c) t (number_of s)) securities) reached in
-      (reached-bars s.key (feed_at (number_of s) (feeds_then feeds c))
-      (sym (feed_at-key (number_of s) (feeds_then feeds c)) ∙ ap (key_at (number_of s)) keys ∙ keyed.0.key) keyed.0.kind
-      (λ feed is. feed_at-each (FollowsList p) (number_of s) (feeds_then feeds c) feed (each-take (FollowsList p) (length c.keys) feeds follow) is) now.0,
-      reached-each feeds c securities keys follow keyed.1 now.1)
+      let now = both (number_reaches (feeds_then feeds c) t (number_of s)) (list_all (λ s. number_reaches (feeds_then feeds c) t (number_of s)) securities) reached in (
+        reached-bars s.key (feed_at (number_of s) (feeds_then feeds c))
+            (sym (feed_at-key (number_of s) (feeds_then feeds c)) ∙ ap (key_at (number_of s)) keys ∙ keyed.0.key) keyed.0.kind
+            (λ feed is. feed_at-each (FollowsList p) (number_of s) (feeds_then feeds c) feed (each-take (FollowsList p) (length c.keys) feeds follow) is) now.0,
+        reached-each feeds c securities keys follow keyed.1 now.1,
+      )
 
   marked-each : (v w : View) (symbols : List (List ℕ)) (same : (s : Subscription) → v.bars s ≡ w.bars s → v.bars (marked_as symbols s) ≡ w.bars (marked_as symbols s))
       → (securities : List Subscription) → Each (λ s. v.bars s ≡ w.bars s) securities → Each (λ s. v.bars s ≡ w.bars s) (map (marked_as symbols) securities)
@@ -188,10 +190,11 @@ module _ (p : Pipeline) (every : LieInDays p.setup.hours) (is_window : IsWindow 
   joined-each : (feeds : List Feed) (c : Core) (universe : UniversePlan) (n : ℕ) (news : List (List ℕ)) → length c.keys ≤ n
       → Each (λ s. (view_of (feeds_then feeds c) t).bars s ≡ (view_known (world p t)).bars s) (numbered (joining universe t) n news)
   joined-each feeds c universe n [] low = tt
-  joined-each feeds c universe n (symbol ∷ news) low =
-      (ap (λ found. bars_taken (items_of found) t) (feed_at-past n (length c.keys) feeds low) ∙ nothing-taken t
-      ∙ sym (begins-fresh p.files p.setup.hours p.setup.plan.window symbol universe.resolution universe.fill t every is_window),
-      joined-each feeds c universe (n + 1) news (omega (arith, low)))
+  joined-each feeds c universe n (symbol ∷ news) low = (
+    ap (λ found. bars_taken (items_of found) t) (feed_at-past n (length c.keys) feeds low) ∙ nothing-taken t
+        ∙ sym (begins-fresh p.files p.setup.hours p.setup.plan.window symbol universe.resolution universe.fill t every is_window),
+    joined-each feeds c universe (n + 1) news (omega (arith, low)),
+  )
 
   each-more : (P : Subscription → Type 0) (xs ys : List Subscription) → Each P xs → Each P ys → Each P (xs ++ ys)
   each-more P [] ys all more = more
@@ -259,7 +262,7 @@ pub more-keys : (step : ℕ → Part) → ((t : ℕ) → Keeps (step t)) → (n 
 more-keys step keep n from c =
     subst (λ r. IsFrontOf (run step n from c).state.keys r.state.keys) (sym (run-more step n from c)) (keys-before (run step n from c) (step (from + n)) (keep (from + n)))
 
-run-same-more : (step other : ℕ → Part) (n from : ℕ) (c : Core) → run step n from c ≡ run other n from c
+pub run-same-more : (step other : ℕ → Part) (n from : ℕ) (c : Core) → run step n from c ≡ run other n from c
     → step (from + n) (run step n from c).state ≡ other (from + n) (run step n from c).state → run step (n + 1) from c ≡ run other (n + 1) from c
 run-same-more step other n from c same next =
     run-more step n from c ∙ before-at (run step n from c) (step (from + n)) (other (from + n)) next
@@ -270,10 +273,11 @@ listed-keyed : (t : ℕ) (keys : List FeedKey) (securities : List Security) (n :
 listed-keyed t keys [] n is = tt
 listed-keyed t keys (security ∷ securities) n is =
     let key = (listed t n security).key in
-    let rest = map (λ s. s.key) (numbered (listed t) (n + 1) securities) in
-    (record { key = ap (λ k. key_at k (keys ++ key ∷ rest)) is ∙ key_at-end keys rest key; kind = tt },
-    subst (λ ks. Each (IsKeyed ks) (numbered (listed t) (n + 1) securities)) (append_assoc keys (key ∷ []) rest)
-    (listed-keyed t (keys ++ key ∷ []) securities (n + 1) (omega (arith, is, length-append keys (key ∷ [])))))
+    let rest = map (λ s. s.key) (numbered (listed t) (n + 1) securities) in (
+      record { key = ap (λ k. key_at k (keys ++ key ∷ rest)) is ∙ key_at-end keys rest key; kind = tt },
+      subst (λ ks. Each (IsKeyed ks) (numbered (listed t) (n + 1) securities)) (append_assoc keys (key ∷ []) rest)
+          (listed-keyed t (keys ++ key ∷ []) securities (n + 1) (omega (arith, is, length-append keys (key ∷ [])))),
+    )
 
 pub opening-keyed : (setup : Setup) (heard : List Reply) → AreKeyed (opening_core setup heard)
 opening-keyed setup heard = listed-keyed (first_moment setup.plan.window) (coarse_keys setup.plan) setup.plan.securities (length (coarse_keys setup.plan)) refl

@@ -1,7 +1,6 @@
 -- The core of a pipeline between two moments: the state of a backtest, in which what the replies tell stands in the place of the
 -- book.
-use Rattle.std.specs.Prelude.{ℕ, ℤ, List, [], ◌++◌, map, length}
-use Rattle.lean_fixed.specs.Moments.{first_moment}
+use Rattle.std.specs.Prelude.{ℕ, ℤ, List, [], ◌++◌, map}
 use Rattle.lean_items.specs.declared.bar.Bar.{Bar}
 use Rattle.lean_items.specs.declared.coarse_row.CoarseRow.{CoarseRow}
 use Rattle.lean_items.specs.declared.feed_key.FeedKey.{FeedKey}

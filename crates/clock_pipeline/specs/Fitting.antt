@@ -1,5 +1,5 @@
 -- Which states of a pipeline fit: what was sent, taken, asked, served, answered, heard and closed belongs together.
-use Rattle.std.specs.Prelude.{◌≡◌, ℕ, ◌+◌, ◌-◌, ◌<◌, ◌≤◌, true, List, length, map, flat_map, None}
+use Rattle.std.specs.Prelude.{◌≡◌, ℕ, ◌+◌, ◌-◌, ◌<◌, ◌≤◌, true, length, map, flat_map, None}
 use Rattle.std.specs.List.{AllByRecursion as Each}
 use Rattle.lean_items.specs.Taken.{Follows}
 use Rattle.clock_steps.specs.Runs.{IsFrontOf}

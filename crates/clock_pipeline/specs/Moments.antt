@@ -11,10 +11,10 @@ use Rattle.lean_orders.specs.declared.desk.Command.TheVariants.{Match, Account a
 use Rattle.lean_orders.specs.declared.desk.Reply.{Reply}
 use Rattle.universe_rules.specs.Selected.{selected}
 use Rattle.universe_state.specs.Choice.{additions, room}
-use Rattle.clock_steps.specs.Runs.{Ran, rests, before}
+use Rattle.clock_steps.specs.Runs.{rests, before}
 use Rattle.clock_book.specs.Seen.{learnt, given_out}
 use Rattle.rule_strategy.specs.declared.universe.UniversePlan.{UniversePlan}
-use Rattle.clock_run.specs.Lines.{Line, added, removed, too_many_securities, too_many_requests}
+use Rattle.clock_run.specs.Lines.{added, removed, too_many_securities, too_many_requests}
 use Rattle.clock_run.specs.Known.{Known}
 use Rattle.clock_run.specs.States.{Setup, symbol_of, actives_of, numbered, joining, equity_key, coarse_keys}
 use Rattle.clock_run.specs.Histories.{History}

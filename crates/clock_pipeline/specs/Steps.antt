@@ -3,14 +3,13 @@
 use Rattle.std.specs.Prelude.{ℕ, zero, suc, ◌+◌, Bool, true, false, ◌&&◌, not, nat_le, is_none, if◌then◌else◌, List, [], ◌∷◌, ◌++◌, length, map, flat_map, fold, drop, Option, Some, None}
 use Rattle.std.specs.List.{list_all, list_any}
 use Rattle.std.specs.Option.{option_map_or}
-use Rattle.lean_items.specs.declared.feed_key.FeedKey.{FeedKey}
 use Rattle.lean_items.specs.declared.item.Item.{Item}
 use Rattle.lean_items.specs.declared.item.Item.TheVariants.{Faulted}
 use Rattle.lean_items.specs.Given.{is_last}
 use Rattle.clock_book.specs.Handled.{after, replies}
 use Rattle.rule_strategy.specs.declared.universe.UniversePlan.{UniversePlan}
 use Rattle.clock_run.specs.Lines.{line_bytes}
-use Rattle.clock_pipeline.specs.Lanes.{Lane, next_of, has_room, with_sent, with_taken}
+use Rattle.clock_pipeline.specs.Lanes.{next_of, has_room, with_sent, with_taken}
 use Rattle.clock_pipeline.specs.Cores.{Core, Pause, waits, halts, number_of, first_book}
 use Rattle.clock_pipeline.specs.Reached.{reaches}
 use Rattle.clock_pipeline.specs.Pipelines.{Pipeline, Feed, State, new_feed, last, list_of, feed_at, feeds_then, closed_core, hand, now}
