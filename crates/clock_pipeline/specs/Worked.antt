@@ -1,6 +1,6 @@
 -- A small pipeline, on which the definitions are computed: a Monday, 2013-10-07, on which the session is its first minute, a
 -- universe over a folder without files, and room for one item in each lane.
-use Rattle.std.specs.Prelude.{ℕ, pos, true, false, List, [], ◌∷◌, ◌++◌, Some, None}
+use Rattle.std.specs.Prelude.{pos, true, false, List, [], ◌∷◌, ◌++◌, Some, None}
 use Rattle.exchange_hours.specs.Entries.{Entries}
 use Rattle.exchange_hours.specs.Sessions.{moment}
 use Rattle.lean_orders.specs.declared.desk.Command.{Command}
