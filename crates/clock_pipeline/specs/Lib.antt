@@ -1,0 +1,9 @@
+pub mod Lanes
+pub mod Replies
+pub mod Cores
+pub mod Moments
+pub mod Reached
+pub mod Pipelines
+pub mod Steps
+pub mod Fitting
+pub mod Worked
