@@ -1,4 +1,6 @@
 pub mod DropLemmas
 pub mod HandledLemmas
+pub mod LinkLemmas
 pub mod OwedLemmas
 pub mod ReplyLemmas
+pub mod ServingLemmas
