@@ -1,3 +1,4 @@
+pub mod BeginLemmas
 pub mod DropLemmas
 pub mod HandledLemmas
 pub mod LinkLemmas

@@ -5,4 +5,6 @@ pub mod Told
 pub mod Serving
 pub mod Ends
 pub mod Linked
+pub mod Threaded
+pub mod Begins
 pub mod Worked

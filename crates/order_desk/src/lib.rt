@@ -16,7 +16,9 @@ pub mod laws;
 mod serial_desk;
 mod server;
 mod serving;
+mod starting;
 mod thread_desk;
+mod threading;
 mod unheard;
 mod worked;
 

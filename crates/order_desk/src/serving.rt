@@ -4,7 +4,7 @@ ghost use Rattle.order_book.specs.Kept.{order_count};
 ghost use Rattle.order_desk.specs.Serving.{RanOn, Ended};
 
 use crate::fits;
-use crate::gate::Gate;
+use crate::gate::Passes;
 use crate::server::Server;
 use lean_fixed::NoMemory;
 use lean_orders::{Command, Reply};
@@ -36,16 +36,16 @@ pub(crate) enum Stop {
 // How many replies are sent at most.
 const MOST_SENT: u64 = 1 << 61;
 
-impl<G: Gate> Server<G> {
+impl<G: Drop> Server<G> {
     /// Serves until the flag is raised. At want of memory it raises the flag itself, and ends.
-    pub(crate) fn serve<R: Wait>(mut self, rt: &R, stop: &AtomicBool) -> Server<G>
+    pub(crate) fn serve<P: Passes<G>, R: Wait>(mut self, rt: &R, stop: &AtomicBool) -> Server<G>
         ensures { Ended self result }
     {
         'serving: for _ in rt.forever() {
             if stop.load(Ordering::SeqCst) {
                 return self;
             }
-            match self.step(rt) {
+            match self.step::<P, R>(rt) {
                 Ok(()) => {}
                 Err(Stop::NoMemory) => {
                     stop.store(true, Ordering::SeqCst);
@@ -58,13 +58,13 @@ impl<G: Gate> Server<G> {
     }
 
     // Sends the next reply, or serves the next command where all replies were sent.
-    fn step<R: Wait>(&mut self, rt: &R) -> Result<(), Stop>
+    fn step<P: Passes<G>, R: Wait>(&mut self, rt: &R) -> Result<(), Stop>
         ensures ran { OnOk result (RanOn self.old self.new) }
         ensures ended { OnErr result (Ended self.old self.new) }
     {
         match self.pending.first() {
             Some(reply) => self.send(rt, reply),
-            None => self.take(rt),
+            None => self.take::<P, R>(rt),
         }
     }
 
@@ -91,14 +91,14 @@ impl<G: Gate> Server<G> {
     }
 
     // Serves the next command, if there is one.
-    fn take<R: Wait>(&mut self, rt: &R) -> Result<(), Stop>
+    fn take<P: Passes<G>, R: Wait>(&mut self, rt: &R) -> Result<(), Stop>
         requires { self.old.pending ≡ [] }
         ensures ran { OnOk result (RanOn self.old self.new) }
         ensures ended { OnErr result (Ended self.old self.new) }
     {
         match self.commands.pop(rt) {
             Some(command) => {
-                self.gate.pass();
+                P::pass(&mut self.gate);
                 if !may_handle(&self.book, &command) {
                     return Err(Stop::Over);
                 }
