@@ -6,13 +6,17 @@ use Rattle.lean_orders.specs.declared.desk.Reply.{Reply}
 use Rattle.clock_book.specs.Books.{Book}
 use Rattle.clock_book.specs.Fitting.{submits}
 use Rattle.clock_book.specs.Handled.{after as after_all, replies}
+use Rattle.feed_queue.specs.Lanes.{sent_of, taken_of}
 use Rattle.order_book.specs.Kept.{Kept}
 use Rattle.order_book.specs.Stands.{StandsFor}
 use Rattle.order_desk.specs.Heard.{told_after, Counts}
 use Rattle.order_desk.specs.Served.{is_done, dones, is_closed, IsFront}
 use Rattle.order_desk.specs.Told.{tell, tells, told_by}
-use Rattle.order_desk.specs.Serving.{Leaves}
-use Rattle.order_desk.specs.Linked.{Links}
+use Rattle.order_desk.specs.Serving.{Leaves, IsLive}
+use Rattle.order_desk.specs.Linked.{Links, Linked}
+use Rattle.order_desk.specs.declared.ends.Ends.{Ends}
+use Rattle.order_desk.specs.declared.lane_desk.LaneDesk.{LaneDesk}
+use Rattle.order_desk.specs.declared.server.Server.{Server}
 use Rattle.order_desk.proofs.OwedLemmas.{counts-more, if_weight}
 use Rattle.order_desk.proofs.ReplyLemmas.{head_of, tail_of, replies-append, dones-append, dones-cons, dones-replies, closed-append, whole-is}
 
@@ -134,3 +138,16 @@ links-whole kept served left out rest n orders answered told sent taken queue s 
     omega (arith, ap length (sym whole ∙ ap (replies s) same ∙ parts), length-append (rs ++ more) behind, length-append rs more) in
     let sent-all : replies s served ≡ out = leaves.front.1 ∙ ap (λ x. out ++ x) (none-left behind (omega (arith, long))) ∙ append-nil out in
     (whole, subst (λ x. StandsFor kept (after_all s x)) (sym same) (leaves.whole sent-all))
+
+-- a desk that is taken apart
+module _ {G : Type 0} {R : Type 0} where
+  pub record Parted (d : LaneDesk G R) (ends : Ends R) (server : Server G) (s : Book) (cs : List Command) (rs : List Reply) : Type 0 where
+    pub begun : IsLive server s
+    pub links : Links d.submitted d.orders d.answered d.told (sent_of ends.commands) (taken_of ends.replies) ends.queue s cs rs
+
+  pub parted : (d : LaneDesk G R) (ends : Ends R) (server : Server G) (s : Book) (cs : List Command) (rs : List Reply)
+      → ends ≡ d.ends → server ≡ d.child.promise.0.value → Linked d s cs rs → Parted d ends server s cs rs
+  parted d ends server s cs rs same began linked = record {
+    begun = subst (λ v. IsLive v s) (sym began) linked.begun;
+    links = subst (λ e. Links d.submitted d.orders d.answered d.told (sent_of e.commands) (taken_of e.replies) e.queue s cs rs) (sym same) linked.links;
+  }

@@ -73,7 +73,7 @@ impl<G: Gate, R: Threads + Wait + Copy> Desk for LaneDesk<G, R> {
     }
 
     fn finish(self) -> Book {
-        let LaneDesk { ends, child, .. } = self;
+        let (ends, child) = self.into_parts();
         ends.stop.store(true, Ordering::SeqCst);
         let server = child.join(&ends.rt);
         let _commands = settle(ends.commands, server.commands);
