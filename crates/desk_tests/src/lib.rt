@@ -2,6 +2,8 @@
 //! a desk.
 #![tactic(auto)]
 
+#[cfg(test)]
+mod meeting;
 mod serving;
 #[cfg(test)]
 mod tests;

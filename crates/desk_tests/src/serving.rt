@@ -121,7 +121,7 @@ fn submit_all<D: Desk>(desk: &mut D, commands: Vec<Command>) -> Result<(), NoMem
 }
 
 // Hears until all commands are done. Where there is no memory for a reply the others are heard all the same.
-fn hear_all<D: Desk>(alloc: Global, desk: &mut D) -> Result<Vec<Heard>, NoMemory>
+pub(crate) fn hear_all<D: Desk>(alloc: Global, desk: &mut D) -> Result<Vec<Heard>, NoMemory>
     requires fed { D.starved desk.old ≡ false }
     ensures fed { OnOk result (D.starved desk.new ≡ false) }
     ensures ends { (D.starved desk.new ≡ true) ⊎ (D.answered desk.new ≡ D.submitted desk.new) }

@@ -1,5 +1,5 @@
 //! Commands to a new book through a desk: what is heard of them, ticket by ticket.
-ghost use Rattle.std.specs.Prelude.{◌≡◌, ◌≤◌, vec_len, IfOk};
+ghost use Rattle.std.specs.Prelude.{◌≡◌, ◌≤◌, false, vec_len, IfOk};
 ghost use Rattle.std.specs.List.{All};
 ghost use Rattle.clock_book.specs.Books.{Book as ClockBook};
 ghost use Rattle.clock_book.specs.Fitting.{IsFitting};
@@ -9,15 +9,16 @@ ghost use Rattle.desk_tests.specs.Calls.{orders_of};
 
 use crate::serving::serve;
 use exchange_hours::Hours;
-use lean_fixed::{Moment, Money, Price, Shares, Symbol, laws};
+use lean_fixed::{Moment, Money, NoMemory, Price, Shares, Symbol, laws};
 use lean_orders::{Command, Heard, Kind, OrderEvent, PriceBar, Reply, Request, What};
 use order_book::Book;
-use order_desk::SerialDesk;
+use order_desk::{Desk, NoGate, SerialDesk, ThreadDesk};
 use std::alloc::Global;
 use std::fmt::Write;
 use std::str;
-use std::sync::Arc;
+use std::sync::{Arc, Wait};
 use std::test::Fail;
+use std::thread::Threads;
 use test_words::{HOURS, cause_word};
 use trade_costs::Costs;
 
@@ -66,7 +67,7 @@ const FILLS: &str = "\
 ";
 
 // Monday, 2013-10-07 10:00.
-const MOMENT: i64 = 23_019_000;
+pub(crate) const MOMENT: i64 = 23_019_000;
 
 fn number(text: Option<&str>) -> Result<u32, Fail> {
     Ok(text.ok_or("a number")?.parse::<u32>()?)
@@ -147,7 +148,7 @@ fn commands(alloc: Global, lines: &str) -> Result<Vec<Command>, Fail>
 }
 
 // A book with a cash of 10,000,000 units, without fees.
-fn new_book(alloc: Global) -> Result<Book, Fail>
+pub(crate) fn new_book(alloc: Global) -> Result<Book, Fail>
     ensures stands { IfOk result (λ book. (s : ClockBook) × StandsFor book s) }
     ensures count { IfOk result (λ book. order_count book ≡ 0) }
 {
@@ -184,7 +185,7 @@ fn say_event(event: &OrderEvent, said: &mut String) -> Result<(), Fail> {
     say_what(&event.what, said)
 }
 
-fn say(heard: &Heard, said: &mut String) -> Result<(), Fail> {
+pub(crate) fn say(heard: &Heard, said: &mut String) -> Result<(), Fail> {
     write!(said, "{} ", heard.ticket.0)?;
     match &heard.reply {
         Reply::Event(event) => say_event(event, said)?,
@@ -194,12 +195,21 @@ fn say(heard: &Heard, said: &mut String) -> Result<(), Fail> {
     Ok(())
 }
 
-// What is heard of some commands to a new book, and then of others.
-fn heard(alloc: Global, first: &str, second: &str) -> Result<String, Fail> {
+// What is heard of some commands through a new desk, and then of others.
+fn heard_of<D: Desk + Drop>(
+    alloc: Global,
+    desk: D,
+    first: &str,
+    second: &str,
+) -> Result<String, Fail>
+    requires fed { D.starved desk ≡ false }
+    requires submitted { D.submitted desk ≡ 0 }
+    requires answered { D.answered desk ≡ 0 }
+    requires orders { D.orders desk ≡ 0 }
+{
     let first = commands(alloc, first)?;
     let second = commands(alloc, second)?;
-    let book = new_book(alloc)?;
-    let outcome = serve(alloc, SerialDesk::new(alloc, book), first, second)?;
+    let outcome = serve(alloc, desk, first, second)?;
     let mut said = String::new(alloc);
     for heard in outcome.early.iter() {
         say(heard, &mut said)?;
@@ -208,6 +218,25 @@ fn heard(alloc: Global, first: &str, second: &str) -> Result<String, Fail> {
         say(heard, &mut said)?;
     }
     Ok(said)
+}
+
+fn heard(alloc: Global, first: &str, second: &str) -> Result<String, Fail> {
+    let book = new_book(alloc)?;
+    heard_of(alloc, SerialDesk::new(alloc, book), first, second)
+}
+
+// The same where a thread serves the book.
+fn heard_afar<R: Threads + Wait + Copy + Send + 'static>(
+    rt: &R,
+    alloc: Global,
+    first: &str,
+    second: &str,
+) -> Result<String, Fail> {
+    let book = new_book(alloc)?;
+    match ThreadDesk::new(rt, alloc, book, NoGate) {
+        Ok(desk) => heard_of(alloc, desk, first, second),
+        Err(NoMemory) => Err(Fail::from("memory")),
+    }
 }
 
 #[test]
@@ -219,5 +248,39 @@ fn refusals(rt: HostRuntime) -> Result<(), Fail> {
 #[test]
 fn fills(rt: HostRuntime) -> Result<(), Fail> {
     assert_eq!(rt; heard(rt.alloc(), BOUGHT, ASKED)?.as_str(), FILLS);
+    Ok(())
+}
+
+#[test]
+fn refusals_of_a_thread(rt: HostRuntime) -> Result<(), Fail> {
+    let said = heard_afar(&rt, rt.alloc(), REFUSED, CLOSED)?;
+    assert_eq!(rt; said.as_str(), REFUSALS);
+    Ok(())
+}
+
+#[test]
+fn fills_of_a_thread(rt: HostRuntime) -> Result<(), Fail> {
+    let said = heard_afar(&rt, rt.alloc(), BOUGHT, ASKED)?;
+    assert_eq!(rt; said.as_str(), FILLS);
+    Ok(())
+}
+
+// A mark, and orders by turns with accounts: more than the lanes hold at once.
+fn many(alloc: Global) -> Result<String, Fail> {
+    let mut lines = String::new(alloc);
+    lines.push_str("mark 100\n")?;
+    for _ in 0..300u32 {
+        lines.push_str("buy 1\naccount\ncancel 7\n")?;
+    }
+    Ok(lines)
+}
+
+#[test]
+fn more_than_the_lanes_hold(rt: HostRuntime) -> Result<(), Fail> {
+    let lines = many(rt.alloc())?;
+    let near = heard(rt.alloc(), lines.as_str(), ASKED)?;
+    let far = heard_afar(&rt, rt.alloc(), lines.as_str(), ASKED)?;
+    assert!(rt; near.len() > 10000);
+    assert_eq!(rt; far.as_str(), near.as_str());
     Ok(())
 }

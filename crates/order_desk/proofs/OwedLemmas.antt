@@ -20,7 +20,7 @@ use Rattle.order_desk.specs.Owed.{is_whole, StandsForSome, Owes}
 use Rattle.order_desk.proofs.HandledLemmas.{handled-answers}
 use Rattle.order_desk.proofs.ReplyLemmas.{after-none, replies-none, after-more, replies-more, dones-append, dones-cons, handled-dones, closed-replies, whole-is}
 
-both_true : (a b : Bool) → a && b ≡ true → (a ≡ true) × (b ≡ true)
+pub both_true : (a b : Bool) → a && b ≡ true → (a ≡ true) × (b ≡ true)
 both_true true b both = (refl, both)
 both_true false b both = absurd cc
 
@@ -56,7 +56,7 @@ whole-to_come told (Account cash equity) [] whole = absurd (grind (arith, nat_te
 whole-to_come told (Event event) (y ∷ xs) whole = whole-to_come (told + 1) y xs (both_true (nat_le (told + 1) most_told) (is_whole (told + 1) (y ∷ xs)) whole).1
 whole-to_come told (Account cash equity) (y ∷ xs) whole = whole-to_come (told + 1) y xs (both_true (nat_le (told + 1) most_told) (is_whole (told + 1) (y ∷ xs)) whole).1
 
-handled-whole : (s : Book) (c : Command) → length (handled s c).replies ≤ most_told + 1 → is_whole 0 (handled s c).replies ≡ true
+pub handled-whole : (s : Book) (c : Command) → length (handled s c).replies ≤ most_told + 1 → is_whole 0 (handled s c).replies ≡ true
 handled-whole s c few =
     let a = handled-answers s c in
     let count : length (a.events ++ Done ∷ []) ≡ length a.events + 1 = length-append a.events (Done ∷ []) in
@@ -105,9 +105,9 @@ steady-more old c xs after more told answered submitted some grows replies few s
     }
 
 -- the numbers of a desk after one more command
-pub counts-more : (old new : Kept) (c : Command) (n answered : ℕ) (s : Book) (cs : List Command) (rs : List Reply)
-    → order_count new ≡ order_count old + submits c → answered ≤ n
-    → Counts n (order_count old) answered s cs rs → Counts (n + 1) (order_count new) answered s (cs ++ c ∷ []) rs
+pub counts-more : (old new : ℕ) (c : Command) (n answered : ℕ) (s : Book) (cs : List Command) (rs : List Reply)
+    → new ≡ old + submits c → answered ≤ n
+    → Counts n old answered s cs rs → Counts (n + 1) new answered s (cs ++ c ∷ []) rs
 counts-more old new c n answered s cs rs ordered within counts =
     let handles = handled-answers (after_all s cs) c in
     record {
@@ -126,7 +126,7 @@ owes-more old new c xs left n answered s cs rs stands replies ordered within owe
   stands = rw (after-more s cs c) (stands (after_all s cs) owes.stands);
   split = replies-more s cs c ∙ ap (λ x. x ++ (handled (after_all s cs) c).replies) owes.split
       ∙ append_assoc rs xs (handled (after_all s cs) c).replies ∙ ap (λ x. rs ++ x) (sym (replies (after_all s cs) owes.stands));
-  counts = counts-more old new c n answered s cs rs ordered within owes.counts;
+  counts = counts-more (order_count old) (order_count new) c n answered s cs rs ordered within owes.counts;
 }
 
 closed_where_all : (s : Book) (cs : List Command) (rs left : List Reply) → replies s cs ≡ rs ++ left → dones rs ≡ length cs → is_closed rs ≡ true
@@ -134,7 +134,7 @@ closed_where_all s cs rs left split all =
     let whole : replies s cs ≡ rs = whole-is s cs rs (left, split) all in
     ap is_closed (sym whole) ∙ closed-replies s cs
 
-if_weight : (b : Bool) (answered : ℕ) → (if b then answered + 1 else answered) ≡ answered + cond b 1 0
+pub if_weight : (b : Bool) (answered : ℕ) → (if b then answered + 1 else answered) ≡ answered + cond b 1 0
 if_weight true answered = refl
 if_weight false answered = omega arith
 

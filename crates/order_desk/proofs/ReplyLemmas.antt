@@ -112,11 +112,11 @@ same_weight : (x y : Reply) → x ≡ y → weight x ≡ weight y
 same_weight x y e = ap weight e
 
 -- two fronts of one list that are done as often, and nothing in part, are the same
-abbrev head_of : Reply → List Reply → Reply
+abbrev pub head_of : Reply → List Reply → Reply
 head_of x [] = x
 head_of x (y ∷ ys) = y
 
-abbrev tail_of : List Reply → List Reply
+abbrev pub tail_of : List Reply → List Reply
 tail_of [] = []
 tail_of (y ∷ ys) = ys
 

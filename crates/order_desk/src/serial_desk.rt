@@ -111,7 +111,7 @@ impl Desk for SerialDesk {
 }
 
 // How many commands are done behind a reply.
-fn answered_behind(answered: u64, reply: &Reply) -> u64
+pub(crate) fn answered_behind(answered: u64, reply: &Reply) -> u64
     requires { answered + 1 < 2 ^ 64 }
     ensures { result ≡ (if is_done reply.now then answered + 1 else answered) }
 {
@@ -122,7 +122,7 @@ fn answered_behind(answered: u64, reply: &Reply) -> u64
 }
 
 // How many replies were heard of the next command behind a reply.
-fn told_behind(told: u32, reply: &Reply) -> u32
+pub(crate) fn told_behind(told: u32, reply: &Reply) -> u32
     requires { told ≤ most_told }
     ensures { result ≡ told_after told reply.now }
 {

@@ -1,8 +1,10 @@
+use feed_queue::Reader;
 use lean_fixed::NoMemory;
 use lean_orders::{Command, Reply};
 use order_book::Book;
 use std::alloc::Global;
 use std::marker::Model;
+use std::sync::Wait;
 
 /// The replies that are not heard yet. Contracts see them as a list.
 #[derive(Drop)]
@@ -24,7 +26,8 @@ impl Model for Unheard {
 }
 
 impl Unheard {
-    ghost use Rattle.std.specs.Prelude.{◌≡◌, ◌+◌, ◌<◌, ◌≤◌, List, [], ◌++◌, drop, length, option_to_list, IfNone, OnOk, OnErr};
+    ghost use Rattle.std.specs.Prelude.{◌≡◌, ◌+◌, ◌<◌, ◌≤◌, List, [], ◌∷◌, ◌++◌, drop, length, option_to_list, IfNone, MatchOption, OnOk, OnErr};
+    ghost use Rattle.feed_queue.specs.Lanes.{taken_of, lane_of_reader};
     ghost use Rattle.lean_orders.specs.declared.desk.Reply.{Reply as Answer};
     ghost use Rattle.clock_book.specs.Books.{Book as ClockBook};
     ghost use Rattle.clock_book.specs.Fitting.{IsFitting, HasRoom, submits, most_orders};
@@ -61,24 +64,33 @@ impl Unheard {
     }
 
     /// Takes the first of the replies.
-    #[tactic(auto, using(crate::proofs::DropLemmas::next_is))]
     pub(crate) fn pop(&mut self) -> Option<Reply>
         ensures first { self.old ≡ option_to_list result ++ self.new }
         ensures none { IfNone result (self.old ≡ []) }
     {
-        match self.replies.get(self.next) {
+        match self.first() {
             None => None,
             Some(reply) => {
-                let reply = *reply;
                 self.pass();
                 Some(reply)
             }
         }
     }
 
-    // Goes on behind the first reply, and lets all go where it was the last.
+    /// The first of the replies.
+    #[tactic(auto, using(crate::proofs::DropLemmas::next_is))]
+    pub(crate) fn first(&self) -> Option<Reply>
+        ensures { MatchOption result (self.now ≡ []) (λ reply. self.now ≡ reply ∷ drop 1 self.now) }
+    {
+        match self.replies.get(self.next) {
+            None => None,
+            Some(reply) => Some(*reply),
+        }
+    }
+
+    /// Goes on behind the first reply, and lets all go where it was the last.
     #[tactic(auto, using(crate::proofs::DropLemmas::drop_next))]
-    fn pass(&mut self)
+    pub(crate) fn pass(&mut self)
         requires { 0 < length self.old }
         ensures { self.new ≡ drop 1 self.old }
     {
@@ -86,6 +98,29 @@ impl Unheard {
         if self.next == self.replies.len() {
             self.replies.clear();
             self.next = 0;
+        }
+    }
+
+    /// Takes a reply from a lane, if there is one, and says whether one came, which is the last then. `NoMemory`: none was taken.
+    #[tactic(auto, using(crate::proofs::DropLemmas::drop_moved))]
+    pub(crate) fn draw<R: Wait>(
+        &mut self,
+        rt: &R,
+        lane: &mut Reader<Reply>,
+    ) -> Result<bool, NoMemory>
+        ensures moved { (rs : List Answer) → taken_of lane.old ≡ rs ++ self.old
+            → taken_of lane.new ≡ rs ++ self.new }
+        ensures lane { lane_of_reader lane.new ≡ lane_of_reader lane.old }
+    {
+        if self.replies.reserve(1).is_err() {
+            return Err(NoMemory);
+        }
+        match lane.pop(rt) {
+            None => Ok(false),
+            Some(reply) => {
+                self.replies.push_reserved(reply);
+                Ok(true)
+            }
         }
     }
 }
