@@ -2,18 +2,4 @@
 #![tactic(auto)]
 
 #[cfg(test)]
-mod books;
-#[cfg(test)]
-mod cases;
-#[cfg(test)]
-mod costs;
-#[cfg(test)]
-mod fills;
-#[cfg(test)]
-mod lines;
-#[cfg(test)]
-mod power;
-#[cfg(test)]
-mod summaries;
-#[cfg(test)]
-mod sums;
+mod tests;

@@ -29,6 +29,7 @@ use Rattle.backtest_engine.specs.PlayingLaws.{stop_of}
 use Rattle.backtest_engine.specs.ReachLemmas.{behind-is}
 use Rattle.backtest_engine.specs.Turns.{Turn, asked_of, Gives}
 use Rattle.backtest_engine.proofs.RunsPhases.{entered-unphased}
+use Rattle.backtest_engine.proofs.WithinLemmas.{within-next}
 
 -- a phase of which some commands were given, and no reply heard
 abbrev pub given_of : Turn Own → List Command → Inside
@@ -86,32 +87,17 @@ given-more m a core turn cs c w numbers gives first stands =
     let one : (next y).left ≡ rest = ap (λ l. (behind_first l y).left) left in
     let few = submits-few c in
     let adds = submitted-append cs (c ∷ []) in
-    record {
-      setup = w.setup;
-      means = w.means;
-      its = w.its;
-      hours = w.hours;
-      at = w.at;
-      clean = w.clean;
-      printed = w.printed;
-      now = ap (λ (x : Moment). x.0) numbers.at ∙ w.now;
-      text = w.text;
-      active = w.active;
-      feeds = w.feeds;
-      numbers = w.numbers;
-      seen = w.seen;
-      ranged = w.ranged;
-      fitting = each-append (λ x. IsFitting x) cs (c ∷ []) w.fitting (gives.fitting, tt);
-      time = each-append (λ x. moment_of x ≡ pos turn.at) cs (c ∷ []) w.time (sym (time-moment c) ∙ (gives.time ∙ w.now), tt);
-      room = omega (arith, w.room, few, adds, gives.requests);
-      plays = λ later is. record {
-        core = inr (subst (λ j. StandsIn core j) (sym (heard-none (given_all (cs ++ c ∷ []) i) ∙ given-one cs c i)) stands);
-        split = p.split ∙ (ap (λ l. cs ++ l) left
-            ∙ (sym (append_assoc cs (c ∷ []) rest)
-            ∙ ap (λ l. (cs ++ c ∷ []) ++ l) (sym (ap (λ (j : Inside). j.left) (given-one cs c i) ∙ one))));
-        stats = p.stats;
-      };
-    }
+    within-next m a core a.stats turn cs (cs ++ c ∷ []) [] [] w numbers
+    (each-append (λ x. IsFitting x) cs (c ∷ []) w.fitting (gives.fitting, tt))
+    (each-append (λ x. moment_of x ≡ pos turn.at) cs (c ∷ []) w.time (sym (time-moment c) ∙ (gives.time ∙ w.now), tt))
+    (omega (arith, w.room, few, adds, gives.requests))
+    (λ later is. record {
+      core = inr (subst (λ j. StandsIn core j) (sym (heard-none (given_all (cs ++ c ∷ []) i) ∙ given-one cs c i)) stands);
+      split = p.split ∙ (ap (λ l. cs ++ l) left
+          ∙ (sym (append_assoc cs (c ∷ []) rest)
+          ∙ ap (λ l. (cs ++ c ∷ []) ++ l) (sym (ap (λ (j : Inside). j.left) (given-one cs c i) ∙ one))));
+      stats = p.stats;
+    })
 
 -- the core has only begun the phase
 pub given-same : (m : Meaning Own) (a : Algorithm) (core : Core) (turn : Turn Own) (cs : List Command)
@@ -119,30 +105,12 @@ pub given-same : (m : Meaning Own) (a : Algorithm) (core : Core) (turn : Turn Ow
     → Within (record a { core = core }) m turn cs []
 given-same m a core turn cs w numbers stands =
     let p = w.plays (replies turn.state.book cs) refl in
-    record {
-      setup = w.setup;
-      means = w.means;
-      its = w.its;
-      hours = w.hours;
-      at = w.at;
-      clean = w.clean;
-      printed = w.printed;
-      now = ap (λ (x : Moment). x.0) numbers.at ∙ w.now;
-      text = w.text;
-      active = w.active;
-      feeds = w.feeds;
-      numbers = w.numbers;
-      seen = w.seen;
-      ranged = w.ranged;
-      fitting = w.fitting;
-      time = w.time;
-      room = omega (arith, w.room, numbers.requests);
-      plays = λ later is. record {
-        core = inr (subst (λ j. StandsIn core j) (sym (heard-none (given_of turn cs))) stands);
-        split = p.split;
-        stats = p.stats;
-      };
-    }
+    within-next m a core a.stats turn cs cs [] [] w numbers w.fitting w.time (omega (arith, w.room, numbers.requests))
+    (λ later is. record {
+      core = inr (subst (λ j. StandsIn core j) (sym (heard-none (given_of turn cs))) stands);
+      split = p.split;
+      stats = p.stats;
+    })
 
 -- what a phase asks in all, where no command is left of it
 asked-all : (m : Meaning Own) (a : Algorithm) (turn : Turn Own) (cs : List Command) (over : Bool) → Within a m turn cs []

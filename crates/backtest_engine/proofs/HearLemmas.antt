@@ -30,6 +30,7 @@ use Rattle.backtest_engine.specs.Playing.{Waits, Within, behind_all}
 use Rattle.backtest_engine.specs.PlayingLaws.{HasEquity}
 use Rattle.backtest_engine.specs.ReachLemmas.{behind-is}
 use Rattle.backtest_engine.specs.Turns.{Turn}
+use Rattle.backtest_engine.proofs.WithinLemmas.{within-next}
 
 abbrev is-empty : List Reply → Bool
 is-empty [] = true
@@ -67,25 +68,8 @@ heard-in a core turn cs rs r rest hears is can (inr stands) =
 pub heard-more : (m : Meaning Own) (a : Algorithm) (core : Core) (stats : Stats) (turn : Turn Own) (cs : List Command) (rs : List Reply) (r : Reply)
     → Within a m turn cs rs → GivesNoMore a.core core → Hears a core r → Closes a stats r
     → Within (record a { core = core; stats = stats }) m turn cs (rs ++ r ∷ [])
-heard-more m a core stats turn cs rs r w numbers hears closes = record {
-  setup = w.setup;
-  means = w.means;
-  its = w.its;
-  hours = w.hours;
-  at = w.at;
-  clean = w.clean;
-  printed = w.printed;
-  now = ap (λ (x : Moment). x.0) numbers.at ∙ w.now;
-  text = w.text;
-  active = w.active;
-  feeds = w.feeds;
-  numbers = w.numbers;
-  seen = w.seen;
-  ranged = w.ranged;
-  fitting = w.fitting;
-  time = w.time;
-  room = omega (arith, w.room, numbers.requests);
-  plays = λ rest is.
+heard-more m a core stats turn cs rs r w numbers hears closes = within-next m a core stats turn cs cs rs (rs ++ r ∷ []) w numbers w.fitting w.time (omega (arith, w.room, numbers.requests))
+    (λ rest is.
       let book = turn.state.book in
       let split : replies book cs ≡ rs ++ r ∷ rest = is ∙ append_assoc rs (r ∷ []) rest in
       let p = w.plays (r ∷ rest) split in
@@ -103,5 +87,4 @@ heard-more m a core stats turn cs rs r w numbers hears closes = record {
             (append_assoc turn.state.own.equities (filter_map equity_told rs) (filter_map equity_told (r ∷ []))
             ∙ ap (λ es. turn.state.own.equities ++ es) (sym (filter_map-append equity_told rs (r ∷ []))))
             (closes (plan_of turn.state.own).cash.0 (turn.state.own.equities ++ filter_map equity_told rs) p.stats (has-equity (pos turn.at) r one));
-      };
-}
+      })

@@ -18,6 +18,7 @@ pub mod RunsSteps
 pub mod RunsWalks
 pub mod RunsEnds
 pub mod ArriveLemmas
+pub mod WithinLemmas
 pub mod GiveLemmas
 pub mod HearLemmas
 pub mod LeaveLemmas

@@ -202,6 +202,28 @@ module _ {Own : Type 0} (at : Moment) (slice : List Arrival) (start : DeskStands
         (subst (λ xs. Stage m t slice s (next_phase p) new (after_plays m) b ((cs ++ g.ds) ++ es) xs) (append_assoc rs g.more others) next));
   }
 
+  -- the slice has arrived
+  abbrev pub ArrivesSo : ((m : Meaning Own) → PlaysTurns m) → List ℕ → Type 0
+  ArrivesSo plays text = (m : Meaning Own) (s : State Own) (t : ℕ) → stands m s [] → meets m t slice s → at.0 ≡ pos t → Arrives m (plays m) text t slice s (Ok tt)
+
+  -- a phase went on to its end
+  abbrev pub WentOn : Phase → DeskStands → DeskStands → ((m : Meaning Own) → PlaysTurns m) → ((m : Meaning Own) → PlaysTurns m) → List ℕ → Type 0
+  WentOn p desk new plays after_plays text = (es : List Command) × (others : List Reply) × GoesOn desk new es others × SaysPhase p desk new plays after_plays text es others (Ok tt)
+
+  -- behind a phase that is finished the next one begins
+  abbrev pub Passes : ((m : Meaning Own) → PlaysTurns m) → Type 0
+  Passes plays = (m : Meaning Own) (turn : Turn Own) (cs : List Command) (rs : List Reply) → plays m turn cs rs → IsFinished m turn cs rs → HasNext turn.phase → plays m (turn_after m turn) [] []
+
+  pub through-prices : (new : DeskStands) (plays0 plays1 : (m : Meaning Own) → PlaysTurns m) (text0 text1 : List ℕ)
+      → ArrivesSo plays0 text0 → WentOn Prices start new plays0 plays1 text1 → Passes plays1 → Through Rules new plays1
+  through-prices new plays0 plays1 text0 text1 arrives (es, others, goes, says) passes =
+      through-next Prices start new plays0 plays1 text1 es others tt passes (through-first plays0 text0 arrives) goes says
+
+  pub through-rules : (desk new : DeskStands) (plays0 plays1 plays2 : (m : Meaning Own) → PlaysTurns m) (text0 text1 text2 : List ℕ)
+      → ArrivesSo plays0 text0 → WentOn Prices start desk plays0 plays1 text1 → Passes plays1 → WentOn Rules desk new plays1 plays2 text2 → Passes plays2 → Through Close new plays2
+  through-rules desk new plays0 plays1 plays2 text0 text1 text2 arrives prices first (es, others, goes, says) passes =
+      through-next Rules desk new plays1 plays2 text2 es others tt passes (through-prices desk plays0 plays1 text0 text1 arrives prices first) goes says
+
   -- how a moment ends
   abbrev pub EndsSo : DeskStands → ((m : Meaning Own) → State Own → List FeedKey → Type 0) → List ℕ → Result Changes Stop → Type 0
   EndsSo new after_stands text result =

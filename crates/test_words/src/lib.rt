@@ -1,6 +1,8 @@
-//! The words for kinds of orders, causes and faults of expressions that the tables of several crates of tests have, and the hours
-//! of their books.
+//! The words for kinds of orders, causes and faults of expressions that the tables of several crates of tests have, the hours of
+//! their books, and algorithm files in short.
 #![tactic(auto)]
+
+pub mod plans;
 
 use lean_orders::{Cause, Kind};
 use rule_lang::RuleError;

@@ -3,13 +3,5 @@
 #![tactic(auto)]
 
 #[cfg(test)]
-mod folders;
-#[cfg(test)]
-mod running;
-#[cfg(test)]
-mod universe;
-#[cfg(test)]
-mod week;
-#[cfg(test)]
-mod words;
+mod tests;
 pub mod worked;

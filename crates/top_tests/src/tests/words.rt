@@ -1,7 +1,7 @@
 //! The words of a backtest, as the command line reads them and as a simple command of `clap` does.
 
-use crate::folders::add;
-use crate::running::offline;
+use crate::tests::folders::add;
+use crate::tests::running::offline;
 use clap::{Arg, Command, value_parser};
 use lean_io::{MemFolder, MemSink};
 use std::alloc::Global;

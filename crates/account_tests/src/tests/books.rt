@@ -3,7 +3,7 @@ ghost use Rattle.lean_fixed.specs.Ranges.{IsMoment, IsStartingCash};
 ghost use Rattle.trade_costs.specs.Fees.{IsCosts};
 ghost use Rattle.clock_book.specs.Fitting.{IsFitting, IsPriceBar};
 
-use crate::cases::{number, price, symbol, within};
+use crate::tests::cases::{number, price, symbol, within};
 use exchange_hours::Hours;
 use lean_fixed::{Moment, Money, NoMemory, Price, Shares, Symbol, laws};
 use lean_orders::{Command, Kind, OrderEvent, PriceBar, Reply, Request, What};

@@ -2,7 +2,7 @@ ghost use Rattle.std.specs.Prelude.{◌≤◌, IfOk};
 ghost use Rattle.lean_fixed.specs.Ranges.{IsMoney, IsPosition};
 ghost use Rattle.buying_power.specs.Buying.{IsPower};
 
-use crate::cases::{fee, price, quantity, within, word};
+use crate::tests::cases::{fee, price, quantity, within, word};
 use buying_power::{Power, allows};
 use lean_fixed::{Money, Shares};
 use std::alloc::Global;

@@ -5,11 +5,12 @@ use std::collections::BTreeMap;
 use std::fmt::Write;
 use std::test::Fail;
 use test_words::HOURS;
+use test_words::plans::file_of;
 
-/// A plan and the usual hours.
+/// A plan in short and the usual hours.
 pub fn begun(alloc: Global, plan: &str) -> Result<BTreeMap<String, Vec<u8>>, Fail> {
     let mut files = BTreeMap::new(alloc);
-    add(alloc, &mut files, "a.toml", plan)?;
+    add(alloc, &mut files, "a.toml", &file_of(alloc, plan)?)?;
     add(
         alloc,
         &mut files,

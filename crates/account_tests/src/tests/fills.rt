@@ -2,7 +2,7 @@ ghost use Rattle.std.specs.Prelude.{IfOk, IfSome};
 ghost use Rattle.lean_fixed.specs.Ranges.{IsPrice};
 ghost use Rattle.fill_models.specs.FillPrice.{IsPriced};
 
-use crate::cases::{costs, number, price, quantity, symbol};
+use crate::tests::cases::{costs, number, price, quantity, symbol};
 use fill_models::{triggers, try_fill};
 use lean_fixed::{Moment, Price, Shares};
 use lean_items::Bar;

@@ -1,4 +1,4 @@
-use crate::cases::{costs, price, within, word};
+use crate::tests::cases::{costs, price, within, word};
 use lean_fixed::{Shares, Side};
 use std::alloc::Global;
 use std::test::Fail;

@@ -1,7 +1,7 @@
 //! Runs of a backtest over files and into a sink in memory that fail at a call.
 ghost use Rattle.std.specs.Prelude.{◌≤◌};
 
-use crate::folders::path_of;
+use crate::tests::folders::path_of;
 use lean_io::{Folder, MemFolder, MemSink};
 use lean_top::{Status, lean_offline};
 use std::alloc::Global;

@@ -1,7 +1,7 @@
 //! The lines of some moments.
 
-use crate::playing::{Game, begin, name, symbol_of, trade};
-use crate::slices::{moment, slice};
+use crate::tests::playing::{Game, begin, name, symbol_of, trade};
+use crate::tests::slices::{moment, slice};
 use backtest_core::{Changes, Stop};
 use std::alloc::Global;
 use std::fmt::Write;

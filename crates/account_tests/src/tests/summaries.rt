@@ -1,8 +1,8 @@
 ghost use Rattle.std.specs.Prelude.{IfOk};
 ghost use Rattle.lean_fixed.specs.Ranges.{IsMoney};
 
-use crate::books::{command, handle, one_a_share};
-use crate::cases::within;
+use crate::tests::books::{command, handle, one_a_share};
+use crate::tests::cases::within;
 use lean_fixed::{Money, NoMemory};
 use order_book::Book;
 use report_stats::Stats;

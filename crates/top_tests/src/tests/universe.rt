@@ -1,33 +1,18 @@
 //! The worked report of a universe whose one security changes, where a call of one of its files fails.
 
-use crate::folders::{add, begun, path_of};
-use crate::running::with_failing_call;
+use crate::tests::folders::{add, begun, path_of};
+use crate::tests::running::with_failing_call;
 use std::alloc::Global;
 use std::collections::BTreeMap;
 use std::test::Fail;
 use test_cases::cases::check;
 
-const PLAN: &str = r#"
-start = "20131007"
-end = "20131008"
-cash = "1000"
-[universe]
-resolution = "minute"
-fill-forward = false
-top = 1
-[[rules]]
-when = "time == 601 and position == 0"
-do = "order"
-symbol = "AAA"
-kind = "market"
-quantity = "10"
-[[rules]]
-when = "time == 605 and position > 0"
-do = "order"
-symbol = "AAA"
-kind = "market"
-quantity = "0 - position"
-"#;
+const PLAN: &str = "\
+run 20131007 20131008 1000
+choose 1
+market 10 when time == 601 and position == 0 for AAA
+market 0 - position when time == 605 and position > 0 for AAA
+";
 
 // Each file has one row. BBB has none.
 const ROWS: &str = "\

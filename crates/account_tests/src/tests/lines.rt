@@ -1,6 +1,6 @@
 ghost use Rattle.report_lines.specs.EventLines.{IsEvent};
 
-use crate::cases::word;
+use crate::tests::cases::word;
 use lean_orders::OrderEvent;
 use report_lines::{read_event, write_event};
 use std::alloc::Global;

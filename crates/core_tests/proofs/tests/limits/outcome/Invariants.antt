@@ -1,6 +1,6 @@
 use denote.Text.{Utf8}
 use denote.Shadow.{shadow}
-use Rattle.core_tests.proofs.limits.outcome.Given as goal
+use Rattle.core_tests.proofs.tests.limits.outcome.Given as goal
 
 -- the last line so far is text
 abbrev pub invariant-loop-line : goal.invariant-loop-line

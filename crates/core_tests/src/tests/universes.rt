@@ -1,30 +1,15 @@
 //! Securities of a universe come and leave, after worked reports.
 
-use crate::lines::check;
+use crate::tests::lines::check;
 use std::test::Fail;
 
 // What is no longer selected is kept until its position is closed.
-const OPEN: &str = r#"
-start = "20131007"
-end = "20131008"
-cash = "1000"
-[universe]
-resolution = "minute"
-fill-forward = false
-top = 1
-[[rules]]
-when = "time == 601 and position == 0"
-do = "order"
-symbol = "AAA"
-kind = "market"
-quantity = "10"
-[[rules]]
-when = "time == 605 and position > 0"
-do = "order"
-symbol = "AAA"
-kind = "market"
-quantity = "0 - position"
-"#;
+const OPEN: &str = "\
+run 20131007 20131008 1000
+choose 1
+market 10 when time == 601 and position == 0 for AAA
+market 0 - position when time == 605 and position > 0 for AAA
+";
 
 const OPEN_DAYS: &str = "\
 0; row 0 AAA 100000 10000
@@ -51,20 +36,11 @@ end 1
 ";
 
 // What is removed and added again begins anew, with another feed and no closes.
-const RETURNS: &str = r#"
-start = "20131007"
-end = "20131009"
-cash = "1000"
-[universe]
-resolution = "minute"
-fill-forward = false
-top = 1
-[[rules]]
-when = "sma(2) > 0"
-do = "order"
-kind = "market"
-quantity = "0"
-"#;
+const RETURNS: &str = "\
+run 20131007 20131009 1000
+choose 1
+market 0 when sma(2) > 0
+";
 
 const RETURN_DAYS: &str = "\
 0; row 0 AAA 100000 10000
@@ -98,24 +74,12 @@ feed 3 AAA
 ";
 
 // What the plan lists is not added where it is selected, and stays where it is not.
-const LISTED: &str = r#"
-start = "20131007"
-end = "20131009"
-cash = "1000"
-[[securities]]
-symbol = "SPY"
-resolution = "minute"
-fill-forward = false
-[universe]
-resolution = "minute"
-fill-forward = false
-top = 1
-[[rules]]
-when = "time == 601"
-do = "order"
-kind = "market"
-quantity = "0"
-"#;
+const LISTED: &str = "\
+run 20131007 20131009 1000
+bars SPY
+choose 1
+market 0 when time == 601
+";
 
 const LISTED_DAYS: &str = "\
 0; row 0 SPY 1000000 10000

@@ -1,7 +1,7 @@
 //! The first faults of algorithm files: each kind of fault at each table, and two faults in one file.
 
-use crate::cases::check;
-use crate::texts::plan_text;
+use crate::tests::cases::check;
+use crate::tests::texts::plan_text;
 use std::alloc::Global;
 use std::fmt::Write;
 use std::test::Fail;

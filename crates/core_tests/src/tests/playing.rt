@@ -4,7 +4,7 @@ ghost use Rattle.lean_fixed.specs.Ranges.{IsPrintedMoment};
 ghost use Rattle.clock_book.specs.Fitting.{IsFitting};
 ghost use Rattle.rule_strategy.specs.Validity.{IsPlan};
 
-use crate::slices::symbol;
+use crate::tests::slices::symbol;
 use backtest_core::{Core, Phase, Stop};
 use exchange_hours::Hours;
 use lean_fixed::{Moment, NoMemory, Symbol};
@@ -16,6 +16,7 @@ use std::alloc::Global;
 use std::sync::Arc;
 use std::test::Fail;
 use test_words::HOURS;
+use test_words::plans::file_of;
 
 /// A core and its book. The number of the feed that was named last is kept; 0 is that of the coarse rows.
 #[derive(Drop)]
@@ -25,10 +26,14 @@ pub struct Game {
     pub feeds: u64,
 }
 
-/// A core of a plan and its book, before the first moment. What the plan lists has its feeds.
+/// A core of a plan in short and its book, before the first moment. What the plan lists has its feeds.
 pub fn begin(alloc: Global, plan: &str) -> Result<Game, Fail> {
-    let mut game = unnamed(alloc, plan)?;
-    for listed in plan.split("[[securities]]\nsymbol = \"").skip(1) {
+    begin_file(alloc, &file_of(alloc, plan)?)
+}
+
+fn begin_file(alloc: Global, file: &str) -> Result<Game, Fail> {
+    let mut game = unnamed(alloc, file)?;
+    for listed in file.split("[[securities]]\nsymbol = \"").skip(1) {
         name_listed(&mut game, listed)?;
     }
     Ok(game)

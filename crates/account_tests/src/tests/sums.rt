@@ -3,7 +3,7 @@ ghost use Rattle.lean_fixed.specs.Ranges.{IsPrice, IsFillPrice, IsQuantity};
 ghost use Rattle.lean_orders.specs.Traded.{IsFill};
 ghost use Rattle.portfolio.specs.Stands.{fills_applied};
 
-use crate::cases::{fee as money, price, quantity, symbol, within};
+use crate::tests::cases::{fee as money, price, quantity, symbol, within};
 use lean_fixed::{Money, NoMemory, Price, Shares, Symbol, laws};
 use lean_orders::Fill;
 use portfolio::Portfolio;

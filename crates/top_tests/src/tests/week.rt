@@ -1,7 +1,7 @@
 //! The worked report of five days, where a read of one of its files fails, or a write, and where its last prices are others.
 
-use crate::folders::{add, begun, path_of};
-use crate::running::{add_other, offline, with_failing_call, with_failing_write};
+use crate::tests::folders::{add, begun, path_of};
+use crate::tests::running::{add_other, offline, with_failing_call, with_failing_write};
 use lean_io::{MemFolder, MemSink};
 use std::alloc::Global;
 use std::collections::BTreeMap;
@@ -9,27 +9,13 @@ use std::fmt::Write;
 use std::test::Fail;
 use test_cases::cases::{check, compare};
 
-const PLAN: &str = r#"
-start = "20131007"
-end = "20131011"
-cash = "100000"
-fee-per-share = "0.005"
-fee-minimum = "1"
-[[securities]]
-symbol = "SPY"
-resolution = "minute"
-period = 15
-[[rules]]
-when = "close > sma(4) and position == 0"
-do = "order"
-kind = "market"
-quantity = "100"
-[[rules]]
-when = "close < sma(4) and position > 0"
-do = "order"
-kind = "market"
-quantity = "0 - position"
-"#;
+const PLAN: &str = "\
+run 20131007 20131011 100000
+fees 0.005 1
+merged SPY 15
+market 100 when close > sma(4) and position == 0
+market 0 - position when close < sma(4) and position > 0
+";
 
 // The price of all minutes of a day.
 const DAYS: &str = "\

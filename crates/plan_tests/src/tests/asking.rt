@@ -1,6 +1,6 @@
 //! What a rule asks for: the commands for one security at one moment.
 
-use crate::cases::check;
+use crate::tests::cases::check;
 use lean_fixed::{Moment, Money, Price, Shares, Symbol};
 use lean_items::Bar;
 use lean_orders::{Command, Kind, Request, Resting};

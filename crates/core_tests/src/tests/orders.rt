@@ -1,28 +1,15 @@
 //! Orders of one security, after worked reports.
 
-use crate::lines::check;
+use crate::tests::lines::check;
 use std::test::Fail;
 
 // A sale of twice the position leaves the account short.
 const THROUGH_ZERO: &str = r#"
-start = "20131007"
-end = "20131007"
-cash = "10000"
+run 20131007 20131007 10000
 fee-per-share = "0.01"
-[[securities]]
-symbol = "SPY"
-resolution = "minute"
-fill-forward = false
-[[rules]]
-when = "time == 601"
-do = "order"
-kind = "market"
-quantity = "10"
-[[rules]]
-when = "time == 602"
-do = "order"
-kind = "market"
-quantity = "-20"
+bars SPY
+market 10 when time == 601
+market -20 when time == 602
 "#;
 
 const TWO_BARS: &str = "\
@@ -40,31 +27,14 @@ const SHORT: &str = "\
 ";
 
 // The two cancels see the same state: the second finds the order closed.
-const CANCELS: &str = r#"
-start = "20131007"
-end = "20131007"
-cash = "10000"
-[[securities]]
-symbol = "SPY"
-resolution = "minute"
-fill-forward = false
-[[rules]]
-when = "time == 601"
-do = "order"
-kind = "limit"
-quantity = "10"
-price = "90"
-[[rules]]
-when = "time == 602"
-do = "update"
-price = "95"
-[[rules]]
-when = "time == 603"
-do = "cancel"
-[[rules]]
-when = "time == 603"
-do = "cancel"
-"#;
+const CANCELS: &str = "\
+run 20131007 20131007 10000
+bars SPY
+limit 10 at 90 when time == 601
+update at 95 when time == 602
+cancel when time == 603
+cancel when time == 603
+";
 
 const THREE_BARS: &str = "\
 601; bar 1 600 601 1000000
@@ -82,25 +52,12 @@ const CANCELED: &str = "\
 ";
 
 // Both rules see a position of 0, though the first buys; at the next bar neither does.
-const TWO_BUYERS: &str = r#"
-start = "20131007"
-end = "20131007"
-cash = "10000"
-[[securities]]
-symbol = "SPY"
-resolution = "minute"
-fill-forward = false
-[[rules]]
-when = "position == 0"
-do = "order"
-kind = "market"
-quantity = "10"
-[[rules]]
-when = "position == 0"
-do = "order"
-kind = "market"
-quantity = "10"
-"#;
+const TWO_BUYERS: &str = "\
+run 20131007 20131007 10000
+bars SPY
+market 10 when position == 0
+market 10 when position == 0
+";
 
 const BOTH_BUY: &str = "\
 20131007 10:01 order 1 SPY submitted market 10 -

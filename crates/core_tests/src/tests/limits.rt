@@ -1,33 +1,20 @@
 //! At most 256 securities are active.
 
-use crate::lines::report;
+use crate::tests::lines::report;
 use std::alloc::Global;
 use std::fmt::Write;
 use std::test::Fail;
 
-const SELECTED: &str = r#"
-start = "20131007"
-end = "20131008"
-cash = "1000"
-[universe]
-resolution = "minute"
-fill-forward = false
-top = 256
-"#;
+const SELECTED: &str = "\
+run 20131007 20131008 1000
+choose 256
+";
 
-const BESIDE: &str = r#"
-start = "20131007"
-end = "20131008"
-cash = "1000"
-[[securities]]
-symbol = "SPY"
-resolution = "minute"
-fill-forward = false
-[universe]
-resolution = "minute"
-fill-forward = false
-top = 256
-"#;
+const BESIDE: &str = "\
+run 20131007 20131008 1000
+bars SPY
+choose 256
+";
 
 // A moment at which 256 securities are selected, and another of one that is none of them.
 fn many_rows(alloc: Global) -> Result<String, Fail> {

@@ -1,28 +1,19 @@
 //! Replies that no one awaits, and bars that do not fit.
 
-use crate::lines::{append_text, check, compare, play};
-use crate::playing::{Game, begin, hear};
-use crate::slices::symbol;
+use crate::tests::lines::{append_text, check, compare, play};
+use crate::tests::playing::{Game, begin, hear};
+use crate::tests::slices::symbol;
 use backtest_core::Core;
 use lean_fixed::{Moment, Money, Price, Shares, Symbol};
 use lean_orders::{Fill, OrderEvent, Reply, What};
 use std::alloc::Global;
 use std::test::Fail;
 
-const BUYER: &str = r#"
-start = "20131007"
-end = "20131007"
-cash = "10000"
-[[securities]]
-symbol = "SPY"
-resolution = "minute"
-fill-forward = false
-[[rules]]
-when = "position == 0"
-do = "order"
-kind = "market"
-quantity = "10"
-"#;
+const BUYER: &str = "\
+run 20131007 20131007 10000
+bars SPY
+market 10 when position == 0
+";
 
 // A bar without a price, a bar of no feed, and one that fits.
 const ODD_BARS: &str = "\
@@ -38,21 +29,12 @@ const ODD_LINES: &str = "\
 20131007 16:00 close cash 9000.0000 equity 10000.0000
 ";
 
-const PERIOD: &str = r#"
-start = "20131007"
-end = "20131007"
-cash = "10000"
-[[securities]]
-symbol = "SPY"
-resolution = "minute"
-fill-forward = false
+const PERIOD: &str = "\
+run 20131007 20131007 10000
+bars SPY
 period = 2
-[[rules]]
-when = "position < 20"
-do = "order"
-kind = "market"
-quantity = "10"
-"#;
+market 10 when position < 20
+";
 
 // Bars of two minutes are made; the third and the last bar start before the one ahead of them ended, and neither asks nor marks.
 const STALE_BARS: &str = "\

@@ -1,0 +1,7 @@
+//! What is tried, and what the tests share.
+
+mod asking;
+mod cases;
+mod faults;
+mod files;
+mod texts;

@@ -1,0 +1,7 @@
+//! What is tried, and what the tests share.
+
+mod folders;
+mod running;
+mod universe;
+mod week;
+mod words;
