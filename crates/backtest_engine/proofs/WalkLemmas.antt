@@ -32,7 +32,7 @@ use Rattle.backtest_engine.specs.Phased.{DeskStands}
 use Rattle.backtest_engine.specs.Stands.{AreLists, AreAt, AreCalm, HasFile, HasMore}
 use Rattle.backtest_engine.specs.Gave.{AreQuiet, AreSound, IsStop}
 use Rattle.backtest_engine.specs.Moved.{moment_at, Knows, Goes, Moved}
-use Rattle.backtest_engine.specs.Exact.{ended_as, Passes, Passed, Took, Stops, EndsBy}
+use Rattle.backtest_engine.specs.Exact.{ended_as, limit_at, Passes, Passed, Took, Stops, EndsBy}
 use Rattle.backtest_engine.specs.Walked.{AllFrom, NoClose, IsEnd, AllMeet}
 use Rattle.backtest_engine.proofs.GaveLemmas.{later-quiet, later-sound, quiet-sound, heads-quiet, heads-stop}
 use Rattle.backtest_engine.proofs.HeadLemmas.{all-later, all-quiet, calm-heads, none-refused, first-refused}
@@ -105,6 +105,7 @@ module _ {Own : Type 0} (m : Meaning Own) (lists : FeedKey → List Item) (coars
     pub knows : Knows m lists coarse stands desk added now heads (at + 1) state b cs rs
     pub wrote : IsTaken told0 told bytes
     pub took : Took m lists first last s0 coarse now at
+    pub plays : limit_at m lists first last s0 coarse now at ≡ None
 
   -- the moment behind those that were played
   ran-next : (at : ℕ) (bytes : List ℕ) (s : State Own) → first ≤ at → so (at - first) ≡ ran_so bytes s None → so (at + 1 - first) ≡ behind bytes (halted m lists at (moment_at m lists coarse at s))
@@ -129,7 +130,7 @@ module _ {Own : Type 0} (m : Meaning Own) (lists : FeedKey → List Item) (coars
   later-passed : (feeds now : Feeds) (until : ℕ) → HasMore feeds now → Passed m lists first last s0 coarse feeds until → Passed m lists first last s0 coarse now until
   later-passed feeds now until has passed t lo hi =
       let p = passed t lo hi in
-      (later-sound feeds now (pos (t + 1)) _ has p.0, later-quiet feeds now (pos (t + 1)) _ has p.1)
+      (later-sound feeds now (pos (t + 1)) _ has p.0, later-quiet feeds now (pos (t + 1)) _ has p.1, p.2)
 
   -- one minute more passed
   passed-step : (now : Feeds) (u : ℕ) → Passed m lists first last s0 coarse now u → Passes m lists first last s0 coarse now u → Passed m lists first last s0 coarse now (u + 1)
@@ -156,6 +157,7 @@ module _ {Own : Type 0} (m : Meaning Own) (lists : FeedKey → List Item) (coars
           passed = later-passed now later at has c.passed;
           sound = subst (λ (r : Ran (State Own) ℕ Halt). AreSound later (pos (at + 1)) (m.active r.state.own)) (sym c.ran) g.sound;
         };
+        plays = subst (λ (r : Ran (State Own) ℕ Halt). (moment_at m lists coarse at r.state).stop ≡ None) (sym c.ran) g.stop;
       }
 
   -- the lines of the first minutes are a front of all
@@ -281,6 +283,7 @@ module _ {Own : Type 0} (m : Meaning Own) (lists : FeedKey → List Item) (coars
         let quiet = heads-quiet coarse (pos (u + 1)) now heads active later calm in (
           subst (λ (r : Ran (State Own) ℕ Halt). AreSound now (pos (u + 1)) (m.active r.state.own)) (sym here) (quiet-sound now (pos (u + 1)) active quiet),
           subst (λ (r : Ran (State Own) ℕ Halt). AreQuiet now (pos (u + 1)) (m.active r.state.own)) (sym there) quiet,
+          ap (λ (r : Ran (State Own) ℕ Halt). r.stop) there,
         )
 
     passed-until : (until : ℕ) → until ≤ last + 1 → All (λ a. stops a.item ≡ false) heads → AllFrom until heads → NoClose m.is_close at until
@@ -288,7 +291,7 @@ module _ {Own : Type 0} (m : Meaning Own) (lists : FeedKey → List Item) (coars
     passed-until until within calm from none zero h =
         let quiet = heads-quiet coarse (pos (at + 1)) now heads (m.active c.state.own) c.knows.at calm in
         let p : Passes m lists first last s0 coarse now at
-        = (c.took.sound, subst (λ (r : Ran (State Own) ℕ Halt). AreQuiet now (pos (at + 1)) (m.active r.state.own)) (sym c.ran) quiet) in
+        = (c.took.sound, subst (λ (r : Ran (State Own) ℕ Halt). AreQuiet now (pos (at + 1)) (m.active r.state.own)) (sym c.ran) quiet, ap (λ (r : Ran (State Own) ℕ Halt). r.stop) (calm-ran calm)) in
         let same : at + 1 ≡ at + 1 + zero = omega arith in
         subst (λ n. Passed m lists first last s0 coarse now n) same (passed-step now at c.took.passed p)
     passed-until until within calm from none (suc gap) h =
@@ -334,6 +337,7 @@ module _ {Own : Type 0} (m : Meaning Own) (lists : FeedKey → List Item) (coars
     exact-stopped a x found is = record {
       at = at;
       took = c.took;
+      plays = c.plays;
       stop = subst (λ (r : Ran (State Own) ℕ Halt). IsStop now (pos (at + 1)) (m.active r.state.own) x) (sym c.ran)
           (subst (λ y. IsStop now (pos (at + 1)) (m.active c.state.own) y) is (heads-stop coarse (pos (at + 1)) now heads (m.active c.state.own) a c.knows.at found));
     }

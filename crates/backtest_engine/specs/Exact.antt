@@ -1,5 +1,5 @@
 -- How a run ends, by what a pool gave.
-use Rattle.std.specs.Prelude.{◌≡◌, ◌⊎◌, ℕ, ◌+◌, ◌-◌, ◌<◌, ◌≤◌, pos, Bool, List, Some, Result, Ok, Err}
+use Rattle.std.specs.Prelude.{◌≡◌, ◌⊎◌, ℕ, ◌+◌, ◌-◌, ◌<◌, ◌≤◌, pos, Bool, List, Option, Some, None, Result, Ok, Err}
 use Rattle.lean_items.specs.declared.bad.Bad.{Bad}
 use Rattle.lean_items.specs.declared.feed_key.FeedKey.{FeedKey}
 use Rattle.lean_items.specs.declared.item.Item.{Item}
@@ -37,9 +37,15 @@ module _ {Own : Type 0} (m : Meaning Own) (lists : FeedKey → List Item) (first
   abbrev pub active_at : ℕ → List Subscription
   active_at t = m.active (minutes m lists first s0 (t - first)).state.own
 
-  -- At a minute the coarse feed's next item does not become a failed read, and behind it nothing stops the run.
+  -- At a minute the coarse feed's next item does not become a failed read, and neither a limit nor an item stops the run.
   abbrev pub Passes : ℕ → Type 0
-  Passes t = AreSound gave (pos (t + 1)) (active_at t) × AreQuiet gave (pos (t + 1)) (active_at (t + 1))
+  Passes t =
+      AreSound gave (pos (t + 1)) (active_at t) × AreQuiet gave (pos (t + 1)) (active_at (t + 1))
+      × ((minutes m lists first s0 (t + 1 - first)).stop ≡ None)
+
+  -- the limit that the moment of a minute meets
+  abbrev pub limit_at : ℕ → Option Met
+  limit_at t = (moment_at m lists coarse t (minutes m lists first s0 (t - first)).state).stop
 
   -- so it is at all minutes before one
   abbrev pub Passed : ℕ → Type 0
@@ -52,19 +58,20 @@ module _ {Own : Type 0} (m : Meaning Own) (lists : FeedKey → List Item) (first
     pub passed : Passed t
     pub sound : AreSound gave (pos (t + 1)) (active_at t)
 
-  -- behind a minute a malformed line or a failed read stops the run
+  -- behind the moment of a minute a malformed line or a failed read stops the run
   pub record Stops (x : Item) : Type 0 where
     pub at : ℕ
     pub took : Took at
+    pub plays : limit_at at ≡ None
     pub stop : IsStop gave (pos (at + 1)) (active_at (at + 1)) x
 
   -- a limit is met within a minute
   pub record Meets (limit : Met) : Type 0 where
     pub at : ℕ
     pub took : Took at
-    pub halts : (moment_at m lists coarse at (minutes m lists first s0 (at - first)).state).stop ≡ Some limit
+    pub halts : limit_at at ≡ Some limit
 
-  -- the coarse feed's next item becomes a failed read while the slice of a minute is taken
+  -- a failed read was taken of the coarse feed by the slice of a minute, before which all passed
   pub record Breaks : Type 0 where
     pub at : ℕ
     pub low : first ≤ at
