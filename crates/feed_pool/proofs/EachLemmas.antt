@@ -26,7 +26,7 @@ differs a b e = elim (eqb_tells a b) [ inl h ↦ absurd cc | inr h ↦ h.1 ]
 
 module _ {A : Type 0} where
   -- behind the last place stands nothing, before and after a push
-  push_other : (places : List (Option A)) (x : Option A) (n : ℕ) → n ≢ length places → get_or (places ++ x ∷ []) n None ≡ get_or places n None
+  pub push_other : (places : List (Option A)) (x : Option A) (n : ℕ) → n ≢ length places → get_or (places ++ x ∷ []) n None ≡ get_or places n None
   push_other [] x zero other = absurd (other refl)
   push_other [] x (suc n) other = refl
   push_other (y ∷ places) x zero other = refl

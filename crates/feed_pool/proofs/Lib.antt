@@ -1,3 +1,4 @@
+pub mod CrewLemmas
 pub mod EachLemmas
 pub mod HandLemmas
 pub mod RunLemmas

@@ -24,7 +24,7 @@ at_least_one : (n : ℕ) → Rose 0 n → 1 ≤ n
 at_least_one n rose = (let h : min 1 (2 ^ 64 - 1) ≤ n = rose in omega (arith, h))
 
 -- a hand that met a fault was given back
-rose-by : (before now more : ℕ) → before ≤ now → Rose 0 more → Rose before (raised now more)
+pub rose-by : (before now more : ℕ) → before ≤ now → Rose 0 more → Rose before (raised now more)
 rose-by before now more since rose =
     let one = at_least_one more rose in
     let low : min (before + 1) (2 ^ 64 - 1) ≤ now + more = omega (arith, min-le_left (before + 1) (2 ^ 64 - 1), one, since) in

@@ -1,3 +1,4 @@
+pub mod Crews
 pub mod Each
 pub mod Lists
 pub mod Running

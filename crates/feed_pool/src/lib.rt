@@ -3,13 +3,18 @@
 //! finished.
 #![tactic(auto)]
 
+mod crew;
+mod crewing;
 mod filled;
 mod hand_feed;
 mod pool_over;
 mod serial;
 mod slots;
+mod workers;
 
+pub use crew::Crew;
 pub use hand_feed::HandFeed;
 pub use pool_over::PoolOver;
 pub use serial::SerialPool;
 pub use slots::Slots;
+pub use workers::WorkerPool;

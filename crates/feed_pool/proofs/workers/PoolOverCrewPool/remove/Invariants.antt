@@ -1,0 +1,27 @@
+use Rattle.std.proofs.Common.{◌≡◌, ◌≤◌, ℕ, false}
+use Rattle.std.specs.Prelude.{vec_len, ◌==◌, if◌then◌else◌}
+use Rattle.std.specs.Arc.{arc_value}
+use Rattle.lean_items.specs.Taken.{Start, Feeds}
+use Rattle.feed_pool.specs.Lists.{lists_of}
+use Rattle.feed_pool.specs.Crews.{Manned, show_all, is_open_in}
+use Rattle.feed_pool.proofs.workers.PoolOverCrewPool.remove.Given as goal
+
+abbrev pub invariant-left : goal.invariant-left
+invariant-left g l = record {
+  stands : (start : Start) (feeds : Feeds)
+      → Manned {feed = g.G.Feed} (lists_of (g.F.Folder.files l.fn.self.folder.now) (arc_value l.fn.self.slots.hours) l.fn.self.slots.window)
+      start (record { faults = g.F.Folder.faults l.fn.self.folder.now; hands = g.F.Folder.hands l.fn.self.folder.now }) (show_all l.fn.self.slots.seats.items) feeds
+      → Manned {feed = g.G.Feed} (lists_of (g.F.Folder.files l.fn.self.folder.now) (arc_value l.fn.self.slots.hours) l.fn.self.slots.window)
+      start (record { faults = g.F.Folder.faults l.self.folder.now; hands = g.F.Folder.hands l.self.folder.now }) (show_all l.self.slots.seats.items) feeds;
+  opened : (n : ℕ) → is_open_in (show_all l.self.slots.seats.items) n
+      ≡ (if n == l.fn.feed.0 then false else is_open_in (show_all l.fn.self.slots.seats.items) n);
+  count : vec_len l.self.slots.seats ≡ vec_len l.fn.self.slots.seats;
+  files : g.F.Folder.files l.self.folder.now ≡ g.F.Folder.files l.fn.self.folder.now;
+  hours : arc_value l.self.slots.hours ≡ arc_value l.fn.self.slots.hours;
+  window : l.self.slots.window ≡ l.fn.self.slots.window;
+  grows : g.F.Folder.faults l.fn.self.folder.now ≤ g.F.Folder.faults l.self.folder.now;
+  place : l.self.folder.ghost_name ≡ l.fn.self.folder.ghost_name;
+}
+
+abbrev pub decreases-left : goal.decreases-left
+decreases-left g l = vec_len l.self.slots.leaving

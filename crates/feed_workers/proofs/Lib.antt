@@ -1,0 +1,3 @@
+pub mod ErrandLemmas
+pub mod FollowLemmas
+pub mod HomeLemmas

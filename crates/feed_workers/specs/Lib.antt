@@ -1,0 +1,4 @@
+pub mod Errands
+pub mod Homes
+pub mod Seats
+pub mod Shown
