@@ -70,21 +70,21 @@ pub heard-more : (m : Meaning Own) (a : Algorithm) (core : Core) (stats : Stats)
     → Within (record a { core = core; stats = stats }) m turn cs (rs ++ r ∷ [])
 heard-more m a core stats turn cs rs r w numbers hears closes = within-next m a core stats turn cs cs rs (rs ++ r ∷ []) w numbers w.fitting w.time (omega (arith, w.room, numbers.requests))
     (λ rest is.
-      let book = turn.state.book in
-      let split : replies book cs ≡ rs ++ r ∷ rest = is ∙ append_assoc rs (r ∷ []) rest in
-      let p = w.plays (r ∷ rest) split in
-      let few : length book.orders + submitted cs ≤ most_orders = omega (arith, w.room) in
-      let can : CanHear (fold learnt (fold given_out (seen_of book) cs) rs) r =
-      replies-heard book cs (pos turn.at) w.ranged w.fitting w.time few w.printed rs r rest split in
-      let b = behind-is turn.phase turn.state.own cs _ rs w.clean p.split in
-      let seen = b.seen ∙ ap (λ (seen : Seen). fold learnt (fold given_out seen cs) rs) w.seen in
-      let one : IsReply (pos turn.at) r = each-mid (λ x. IsReply (pos turn.at) x) rs r rest
-      (subst (λ xs. Each (λ x. IsReply (pos turn.at) x) xs) split (in-range-replies book cs w.ranged w.fitting few (pos turn.at) w.time)) in
-      record {
-        core = inr (heard-in a core turn cs rs r rest hears split (λ stands. subst (λ seen. CanHear seen r) (sym seen) can) p.core);
-        split = p.split;
-        stats = subst (λ es. StatsStand stats (plan_of turn.state.own).cash.0 es)
-            (append_assoc turn.state.own.equities (filter_map equity_told rs) (filter_map equity_told (r ∷ []))
-            ∙ ap (λ es. turn.state.own.equities ++ es) (sym (filter_map-append equity_told rs (r ∷ []))))
-            (closes (plan_of turn.state.own).cash.0 (turn.state.own.equities ++ filter_map equity_told rs) p.stats (has-equity (pos turn.at) r one));
-      })
+    let book = turn.state.book in
+    let split : replies book cs ≡ rs ++ r ∷ rest = is ∙ append_assoc rs (r ∷ []) rest in
+    let p = w.plays (r ∷ rest) split in
+    let few : length book.orders + submitted cs ≤ most_orders = omega (arith, w.room) in
+    let can : CanHear (fold learnt (fold given_out (seen_of book) cs) rs) r =
+    replies-heard book cs (pos turn.at) w.ranged w.fitting w.time few w.printed rs r rest split in
+    let b = behind-is turn.phase turn.state.own cs _ rs w.clean p.split in
+    let seen = b.seen ∙ ap (λ (seen : Seen). fold learnt (fold given_out seen cs) rs) w.seen in
+    let one : IsReply (pos turn.at) r = each-mid (λ x. IsReply (pos turn.at) x) rs r rest
+    (subst (λ xs. Each (λ x. IsReply (pos turn.at) x) xs) split (in-range-replies book cs w.ranged w.fitting few (pos turn.at) w.time)) in
+    record {
+      core = inr (heard-in a core turn cs rs r rest hears split (λ stands. subst (λ seen. CanHear seen r) (sym seen) can) p.core);
+      split = p.split;
+      stats = subst (λ es. StatsStand stats (plan_of turn.state.own).cash.0 es)
+          (append_assoc turn.state.own.equities (filter_map equity_told rs) (filter_map equity_told (r ∷ []))
+          ∙ ap (λ es. turn.state.own.equities ++ es) (sym (filter_map-append equity_told rs (r ∷ []))))
+          (closes (plan_of turn.state.own).cash.0 (turn.state.own.equities ++ filter_map equity_told rs) p.stats (has-equity (pos turn.at) r one));
+    })

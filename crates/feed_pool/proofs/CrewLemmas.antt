@@ -62,10 +62,10 @@ module _ {T : Type 0} where
   opened-shut seats k n = elim (cases_lt k (length seats)) [
     | inl h ↦ opened-set seats k (option_map shut (get_or seats k None)) h n ∙ ap (λ b. cond (eqb n k) b (is_open_in seats n)) (shut-closed (get_or seats k None))
     | inr h ↦ ap (λ s. is_open_in s n) (set_past seats k (option_map shut (get_or seats k None)) h) ∙ elim (eqb_tells n k) [
-        | inl e ↦ subst (λ b. is_open_in seats n ≡ cond b false (is_open_in seats n)) (sym e.0)
-            (subst (λ m. is_open_seat (get_or seats m None) ≡ false) (sym e.1) (ap is_open_seat (get_or_past seats k None h)))
-        | inr e ↦ subst (λ b. is_open_in seats n ≡ cond b false (is_open_in seats n)) (sym e.0) refl
-      ]
+      | inl e ↦ subst (λ b. is_open_in seats n ≡ cond b false (is_open_in seats n)) (sym e.0)
+          (subst (λ m. is_open_seat (get_or seats m None) ≡ false) (sym e.1) (ap is_open_seat (get_or_past seats k None h)))
+      | inr e ↦ subst (λ b. is_open_in seats n ≡ cond b false (is_open_in seats n)) (sym e.0) refl
+    ]
   ]
 
   held-shut : (seats : List (Option (Shown T))) (k : ℕ) → held (shut_in seats k) ≡ held seats
@@ -164,7 +164,7 @@ module _ {G : Type 0} {feed : Ghosts G} where
         → IsLeft x y left → Standing lists before now x taken → Standing lists before later y taken
     seat-left before now later x y left taken since raises leaves standing =
         subst (λ z. Standing lists before later z taken) (sym leaves.gone)
-          (settled-one before now later leaves.was left taken since raises leaves.settled (subst (λ z. Standing lists before now z taken) leaves.there standing))
+        (settled-one before now later leaves.was left taken since raises leaves.settled (subst (λ z. Standing lists before now z taken) leaves.there standing))
 
     pub manned-took : (start now : Start) (seats : List (Option (Seat G feed))) (feeds : Feeds) (k : ℕ) (was x : Option (Seat G feed)) (item : Item)
         → k < length seats → was ≡ get_or seats k None → Took (show was) (show x) item
@@ -192,11 +192,11 @@ module _ {G : Type 0} {feed : Ghosts G} where
         → Manned lists start now seats feeds → Manned lists start now (shut_in seats k) feeds
     manned-shut start now seats feeds k manned = elim (cases_lt k (length seats)) [
       | inl h ↦ record {
-          since = manned.since;
-          each = each-set (Standing lists start.faults now.faults) (Standing lists start.faults now.faults) (λ y t standing. standing) seats feeds k (option_map shut (get_or seats k None)) h
-              (λ t standing. seat-shut start.faults now.faults (get_or seats k None) t standing) manned.each;
-          hands = manned.hands ∙ ap (λ n. start.hands + n) (sym (held-shut seats k));
-        }
+        since = manned.since;
+        each = each-set (Standing lists start.faults now.faults) (Standing lists start.faults now.faults) (λ y t standing. standing) seats feeds k (option_map shut (get_or seats k None)) h
+            (λ t standing. seat-shut start.faults now.faults (get_or seats k None) t standing) manned.each;
+        hands = manned.hands ∙ ap (λ n. start.hands + n) (sym (held-shut seats k));
+      }
       | inr h ↦ subst (λ s. Manned lists start now s feeds) (sym (set_past seats k (option_map shut (get_or seats k None)) h)) manned
     ]
 

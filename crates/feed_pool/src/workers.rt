@@ -43,12 +43,11 @@ fn start_all<G: Feed + Drop + Send + 'static, R: Threads + Wait + Copy + Send + 
 }
 
 impl<
-        'a,
-        F: Folder,
-        G: HandFeed<F::H> + Send + 'static,
-        R: Threads + Wait + Copy + Send + 'static,
-    > PoolOver<'a, F, Crew<G, R>>
-{
+    'a,
+    F: Folder,
+    G: HandFeed<F::H> + Send + 'static,
+    R: Threads + Wait + Copy + Send + 'static,
+> PoolOver<'a, F, Crew<G, R>> {
     ghost use Rattle.std.specs.Prelude.{◌≡◌, ◌≤◌, IfOk};
     ghost use Rattle.std.specs.Arc.{arc_value};
     ghost use Rattle.lean_fixed.specs.Ranges.{IsWindow};
@@ -93,7 +92,8 @@ impl<
     }
 }
 
-impl<F: Folder, G: HandFeed<F::H> + 'static, R: Threads + Wait> Pool for PoolOver<'_, F, Crew<G, R>> {
+impl<F: Folder, G: HandFeed<F::H> + 'static, R: Threads + Wait> Pool
+    for PoolOver<'_, F, Crew<G, R>> {
     ghost use Rattle.std.specs.Prelude.{◌<◌, Some, None, slice_index_or, vec_len};
     ghost use Rattle.std.specs.Arc.{arc_value};
     ghost use Rattle.feed_pool.specs.Lists.{lists_of};
@@ -157,7 +157,12 @@ impl<F: Folder, G: HandFeed<F::H> + 'static, R: Threads + Wait> Pool for PoolOve
         crew.present = crew.present.saturating_sub(1);
         'left: loop {
             let crew = &mut self.slots;
-            match collect(&crew.rt, &mut crew.seats, &mut crew.workers, &mut crew.leaving) {
+            match collect(
+                &crew.rt,
+                &mut crew.seats,
+                &mut crew.workers,
+                &mut crew.leaving,
+            ) {
                 Some(feed) => self.folder.take_back(feed.into_hand()),
                 None => return,
             }

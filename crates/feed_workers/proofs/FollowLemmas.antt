@@ -69,7 +69,7 @@ follows-front list taken more follows = elim follows [
         let others : taken ++ more ≡ rows ++ Faulted ∷ [] = cc in
         let tail = from (rows ++ rest) taken more rows rest others refl (All-tail IsRow r rows all) in
         subst (λ l. Follows l (y ∷ taken)) (sym (is ∙ ap (λ a. a ∷ (rows ++ rest)) first))
-          (row-more y (rows ++ rest) taken (subst IsRow first (All-head IsRow r rows all)) tail))
+        (row-more y (rows ++ rest) taken (subst IsRow first (All-head IsRow r rows all)) tail))
 
 -- a last item that is no failed read stands at no place but in the list
 other-last : (x : Item) (taken : List Item) → (x ≡ Faulted → ⊥) → is_last x ≡ true → (rows : List Item) → x ∷ taken ≡ rows ++ Faulted ∷ [] → All IsRow rows → ⊥
@@ -132,11 +132,12 @@ module _ {G : Type 0} {feed : Ghosts G} where
 
   -- what was taken of the lane of a turn that came home
   pub unseated : (origin turn : Turn G feed) (taken left : List Item) → HasRun origin turn → sent_of turn ≡ taken ++ left → Unseated origin taken turn.feed
-  unseated origin turn taken left has is = λ told before stands.
-      (λ list tells. follows-stable list taken (∥∥₁_map has (λ ran.
+  unseated origin turn taken left has is = λ told before stands. (
+    λ list tells. follows-stable list taken (∥∥₁_map has (λ ran.
         follows-front list taken (left ++ held_items turn.held) (subst (λ g. Follows list g) given ((ran.stands told before stands).follows list tells)))),
-      λ faulted. ∥∥₁_elim has (hlevel props) (λ ran. (ran.stands told before stands).rose
-        (subst (λ g. Contains g Faulted) (sym given) (Contains-append_left taken (left ++ held_items turn.held) Faulted faulted))))
+    λ faulted. ∥∥₁_elim has (hlevel props) (λ ran. (ran.stands told before stands).rose
+        (subst (λ g. Contains g Faulted) (sym given) (Contains-append_left taken (left ++ held_items turn.held) Faulted faulted))),
+  )
     where
       given : given_of turn ≡ taken ++ (left ++ held_items turn.held)
       given = ap (λ s. s ++ held_items turn.held) is ∙ append_assoc taken left (held_items turn.held)

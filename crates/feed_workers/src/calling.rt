@@ -9,13 +9,7 @@ use std::sync::Wait;
 
 impl<G: Feed + Drop + 'static> Seat<G> {
     /// Sends the turn to a worker, whose place among the workers is `station`. It stays here where the worker has no place for it.
-    pub fn send<R: Wait>(
-        &mut self,
-        rt: &R,
-        feed: FeedNo,
-        station: usize,
-        worker: &mut Running<G>,
-    )
+    pub fn send<R: Wait>(&mut self, rt: &R, feed: FeedNo, station: usize, worker: &mut Running<G>)
         ensures { shown self.new ≡ shown self.old }
     {
         match mem::replace(&mut self.spot, Spot::Out) {

@@ -82,12 +82,7 @@ impl<G: Feed + Drop + 'static> Running<G> {
     }
 
     // Sends a turn to the worker. The turn comes back where the worker has no place for it, or where its lane was full.
-    pub(crate) fn take<R: Wait>(
-        &mut self,
-        rt: &R,
-        feed: FeedNo,
-        away: Away<G>,
-    ) -> Option<Away<G>>
+    pub(crate) fn take<R: Wait>(&mut self, rt: &R, feed: FeedNo, away: Away<G>) -> Option<Away<G>>
         ensures { MatchOption result (takes (sent_of self.new.errands) ≡ takes (sent_of self.old.errands) + 1)
             (λ back. back ≡ away) }
     {

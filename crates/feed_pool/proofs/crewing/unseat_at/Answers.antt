@@ -8,4 +8,4 @@ returns-clause-collected g c =
     let seats = c.args.seats.now.items in
     let within : c.args.place < length seats = omega (arith, c.args.seats.now.ok.0, c.if-place-len.false, c.len.ensures) in
     collected-at seats c.args.place c.index_mut.result.now c.unseat.new.slot c.unseat.result within
-      (get_or_read seats c.args.place c.index_mut.result.now within c.index_mut.ensures.value None) c.unseat.ensures
+    (get_or_read seats c.args.place c.index_mut.result.now within c.index_mut.ensures.value None) c.unseat.ensures

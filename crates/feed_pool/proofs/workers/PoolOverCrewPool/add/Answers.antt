@@ -39,12 +39,12 @@ returns-in-Ok-clause-stands g c start feeds manned =
     let fresh : feed.faults c.in-Ok.feed ≡ 0 = c.in-Ok.ensures.same ∙ c.in_ok-hand.ensures.fresh.0 in
     let made : Stands (told_of lists c.args.key) 0 (shown c.seat-seat.result).origin
     = subst (λ n. Stands (told_of lists c.args.key) n (shown c.seat-seat.result).origin) fresh
-        (c.seat-seat.ensures.stands (told_of lists c.args.key)
-          (told-leaves lists c.args.key (feed.leaves c.in-Ok.feed) (told-list (g.F.Folder.files pool.folder.now) hours pool.slots.window c.args.key (feed.leaves c.in-Ok.feed) told))) in
+    (c.seat-seat.ensures.stands (told_of lists c.args.key)
+    (told-leaves lists c.args.key (feed.leaves c.in-Ok.feed) (told-list (g.F.Folder.files pool.folder.now) hours pool.slots.window c.args.key (feed.leaves c.in-Ok.feed) told))) in
     let stands : Stands (told_of lists c.args.key) 0 (shown seat).origin
     = subst (λ s. Stands (told_of lists c.args.key) 0 s.origin) (sym c.send_out-seat.ensures) made in
     rw (files, pushed) (manned-added lists start now later seats feeds c.len-number.result seat c.args.key count c.hand.ensures.same c.in_ok-hand.ensures.out
-      (ap (λ s. s.items) c.send_out-seat.ensures ∙ c.seat-seat.ensures.items) stands manned)
+    (ap (λ s. s.items) c.send_out-seat.ensures ∙ c.seat-seat.ensures.items) stands manned)
 
 pub returns-in-Err-clause-stands : goal.returns-in-Err-clause-stands
 returns-in-Err-clause-stands g c start feeds manned =

@@ -18,7 +18,7 @@ returns-clause-fewer g c =
     let seats = c.args.self.now.slots.seats.items in
     let within : c.args.feed.0 < length seats = omega (arith, open-within (show_all seats) c.args.feed.0 c.requires, shows-length seats) in
     fewer-took seats c.args.feed.0 c.index_mut.result.now c.take_of.new.slot c.take_of.result within
-      (get_or_read seats c.args.feed.0 c.index_mut.result.now within c.index_mut.ensures.value None) c.take_of.ensures
+    (get_or_read seats c.args.feed.0 c.index_mut.result.now within c.index_mut.ensures.value None) c.take_of.ensures
 
 pub returns-clause-stands : goal.returns-clause-stands
 returns-clause-stands g c start feeds manned =
@@ -26,5 +26,5 @@ returns-clause-stands g c start feeds manned =
     let seats = pool.slots.seats.items in
     let within : c.args.feed.0 < length seats = omega (arith, open-within (show_all seats) c.args.feed.0 c.requires, shows-length seats) in
     manned-took (lists_of (g.F.Folder.files pool.folder.now) (arc_value pool.slots.hours) pool.slots.window) start
-      (record { faults = g.F.Folder.faults pool.folder.now; hands = g.F.Folder.hands pool.folder.now }) seats feeds c.args.feed.0 c.index_mut.result.now c.take_of.new.slot c.take_of.result within
-      (get_or_read seats c.args.feed.0 c.index_mut.result.now within c.index_mut.ensures.value None) c.take_of.ensures manned
+    (record { faults = g.F.Folder.faults pool.folder.now; hands = g.F.Folder.hands pool.folder.now }) seats feeds c.args.feed.0 c.index_mut.result.now c.take_of.new.slot c.take_of.result within
+    (get_or_read seats c.args.feed.0 c.index_mut.result.now within c.index_mut.ensures.value None) c.take_of.ensures manned

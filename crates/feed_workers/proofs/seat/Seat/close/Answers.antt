@@ -14,4 +14,4 @@ returns g c =
     let seat = c.args.self in
     let is = ap sent_of (sym c.into_parts-parts.ensures.out) ∙ c.settle.ensures.rest in
     subst (λ f. Unseated seat.origin.value (taken_of seat.reader) f) (sym c.into_parts-parts.ensures.feed)
-      (unseated seat.origin.value c.args.turn (taken_of seat.reader) (left_of c.settle.result.rest) c.requires is)
+    (unseated seat.origin.value c.args.turn (taken_of seat.reader) (left_of c.settle.result.rest) c.requires is)

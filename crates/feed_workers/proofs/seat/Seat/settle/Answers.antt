@@ -8,4 +8,4 @@ returns g c =
     let e = c.close.ensures in
     let was = c.turn_home-turn.ensures in
     subst (λ o. Unseated o (taken_of c.args.self.reader) c.close.result) was.origin
-      (subst (λ r. Unseated c.turn_home-turn.new.self.origin.value (taken_of r) c.close.result) was.reader e)
+    (subst (λ r. Unseated c.turn_home-turn.new.self.origin.value (taken_of r) c.close.result) was.reader e)

@@ -8,4 +8,4 @@ pub returns : goal.returns
 returns g c =
     let worker = c.args.self in
     none-missed (sent_of c.args.errands) (taken_of worker.errands) (left_of c.settle.result.rest) c.let_go-here.result c.let_rest_go.result _
-      c.settle.ensures.rest (subst (λ n. IsNoneLost (taken_of worker.errands) n) (sym c.let_go-here.ensures) worker.none_lost) c.let_rest_go.ensures.went refl
+    c.settle.ensures.rest (subst (λ n. IsNoneLost (taken_of worker.errands) n) (sym c.let_go-here.ensures) worker.none_lost) c.let_rest_go.ensures.went refl
